@@ -1,0 +1,7 @@
+pub mod Same
+pub mod Own
+pub mod Dyadic
+pub mod Nan
+pub mod Compare
+pub mod Meet
+pub mod Twos
