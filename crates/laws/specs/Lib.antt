@@ -1,3 +1,4 @@
+pub mod Only
 pub mod Same
 pub mod Own
 pub mod Dyadic
