@@ -1,7 +1,7 @@
 // A float's word, sign and size. There is one NaN, with no sign, so a NaN's sign counts as clear.
 ghost use mathlib.Core.Path.{_≡_};
-ghost use lib.Ieee.{binary32, ofBits, isNan};
-ghost use Rattle.numbers.specs.Words.{signOf, signed, absOf};
+ghost use lib.Ieee.{binary32, ofBits, toBits, isNan};
+ghost use Rattle.numbers.specs.Words.{signOf, signed, absOf, copysignOf, halfOf};
 
 // The float of a word. `f32::from_bits` is not defined at a NaN's pattern.
 pub fn float_of(w: u32) -> f32
@@ -11,6 +11,17 @@ pub fn float_of(w: u32) -> f32
         return 0.0 / 0.0;
     }
     f32::from_bits(w)
+}
+
+// The word of a float, and of a NaN the one with only its highest digit set. `f32::to_bits` is not
+// defined there.
+pub fn word_of(x: f32) -> u32
+    ensures { λ r. ⌜ r ≡ toBits binary32 x ⌝ }
+{
+    if x != x {
+        return 0x7fc0_0000;
+    }
+    f32::to_bits(x)
 }
 
 pub fn is_nan(x: f32) -> bool
@@ -40,4 +51,26 @@ pub fn abs(x: f32) -> f32
     ensures { λ r. ⌜ r ≡ absOf x ⌝ }
 {
     turned(is_negative(x), x)
+}
+
+// The size of x with the sign of s.
+pub fn copysign(x: f32, s: f32) -> f32
+    ensures { λ r. ⌜ r ≡ copysignOf x s ⌝ }
+{
+    turned(is_negative(s), abs(x))
+}
+
+// The binary16 in the low 16 bits of w. Its sign, exponent and digits are put where binary32 has
+// its own. Finite ones are then too small by 2^112, subnormals too, since binary32's exponents
+// begin so much lower; the product is exact. All ones, the exponent of an infinity or a NaN, are
+// filled up to all ones.
+pub fn half(w: u32) -> f32
+    ensures { λ r. ⌜ r ≡ halfOf w ⌝ }
+{
+    let size = w % 32768;
+    let word = w / 32768 % 2 * 0x8000_0000 + size * 8192;
+    if size < 31744 {
+        return float_of(word) * 5192296858534827628530496329220096.0;
+    }
+    float_of(word + 0x7000_0000)
 }
