@@ -1,0 +1,31 @@
+-- `numbers::select::min` meets its contract. Assumes nothing.
+use borrow.Author.Needs.{needs}
+use mathlib.Core.Path.{_≡_, sym, _∙_}
+use Rattle.numbers.specs.Select.{minOf}
+use Rattle.numbers.proofs.Bits.{nan-test}
+use Rattle.numbers.proofs.select.min.Statement.{statement}
+use Rattle.numbers.proofs.select.min.Tie as tie
+
+returns : tie.Need-returns
+unfolding minOf
+returns c = rw (← nan-test (c .before .args .x), c .if1 .taken)
+
+returns-2 : tie.Need-returns-2
+unfolding minOf
+returns-2 c = rw (← nan-test (c .before .before .args .x), c .before .if1 .left, ← nan-test (c .before .before .args .y), c .if2 .taken)
+
+first-requires : tie.Need-first-requires
+first-requires c κs = search needs
+
+returns-3 : tie.Need-returns-3
+unfolding minOf
+returns-3 c =
+    rw (← nan-test (c .before .before .before .before .args .x), c .before .before .before .if1 .left, ← nan-test (c .before .before .before .before .args .y), c .before .before .if2 .left, ← c .before .first .ensures, c .if3 .taken)
+
+returns-4 : tie.Need-returns-4
+unfolding minOf
+returns-4 c =
+    rw (← nan-test (c .before .before .before .before .args .x), c .before .before .before .if1 .left, ← nan-test (c .before .before .before .before .args .y), c .before .before .if2 .left, ← c .before .first .ensures, c .if3 .left)
+
+pub min-spec : {M : Type 1} → statement M
+min-spec = tie.close (tie.spec returns returns-2 first-requires returns-3 returns-4)
