@@ -7,6 +7,7 @@ use lib.Ieee.{Float, nan, inf, fin, binary32, up, down, odd, ofFields, ofBits, t
 use lib.Ieee.Bits.{is-true, is-false, ofBits-toBits, nanBits-is, nanBits-above}
 use borrow.Author.Tests.{lt-ltb, le-ltb}
 use Rattle.numbers.specs.Words.{signOf}
+use Rattle.numbers.specs.WordsLaws.{only-nan}
 
 -- ---- a test's outcome as a fact
 pub yes : {b : Bool} → b ≡ true → T b
@@ -26,12 +27,6 @@ nan-test (inf true) = refl
 nan-test (inf false) = refl
 nan-test (fin true m e) = both (eqb (m * up e * down e) (m * up e * down e)) (eqb-refl (m * up e * down e))
 nan-test (fin false m e) = both (eqb (m * up e * down e) (m * up e * down e)) (eqb-refl (m * up e * down e))
-
-pub only-nan : (x : Float) → T (isNan x) → x ≡ nan
-unfolding isNan
-only-nan nan t = refl
-only-nan (inf s) t = absurd t
-only-nan (fin s m e) t = absurd t
 
 pub is-nan : (x : Float) → ne x x ≡ true → x ≡ nan
 is-nan x h = only-nan x (yes (sym (nan-test x) ∙ h))

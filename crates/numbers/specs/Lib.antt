@@ -1,2 +1,5 @@
 pub mod Words
+pub mod WordsLaws
 pub mod Select
+pub mod Order
+pub mod SelectLaws

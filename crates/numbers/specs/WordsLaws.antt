@@ -1,0 +1,42 @@
+-- What signs, sizes and binary16 promise. Assumes nothing.
+use mathlib.Core.Path.{_≡_, refl, sym, ap, _∙_, subst}
+use mathlib.Core.Bool.{Bool, true, false, not, cond}
+use Prim.Native.Nat.{ℕ, zero, suc, _+_, _-_, _*_, _/_, _%_, _^_, _≤_, _<_}
+use native.Mathlib.Nat.{mul-assoc, lt-irrefl, lt-of-lt-of-le}
+use native.Mathlib.Omega.{arith}
+use lib.Dec.{T, eqb, lit<, lit≤}
+use lib.Pow.{pow-pos, pow-add, pow-mono, shl-lt}
+use lib.Ieee.{Float, nan, inf, fin, binary32, round, isNan, fits}
+use lib.Ieee.Exact.{HasValue, round-exact}
+use borrow.Author.Tests.{ne-eqb}
+use Rattle.numbers.specs.Words.{signOf, signed, absOf, halfUnits, halfFields, halfOf}
+
+pub only-nan : (x : Float) → T (isNan x) → x ≡ nan
+unfolding isNan
+only-nan nan t = refl
+only-nan (inf s) t = absurd t
+only-nan (fin s m e) t = absurd t
+
+-- ---- a finite binary16 is read with no rounding
+fine : (u x : ℕ) → u < 2 ^ 11 → x < 31 → u * 2 ^ (x + 125) < 2 ^ (149 + 128)
+fine u x h k = lt-of-lt-of-le (shl-lt 11 (x + 125) h) (pow-mono {j = 277} (omega arith))
+
+sums : (x : ℕ) → x + 149 ≡ x + 125 + 24
+sums x = omega arith
+
+units-exact : (s : Bool) (x t : ℕ) → x < 31 → t < 1024 → HasValue (round binary32 s (halfUnits x t) (2 ^ 24)) s (halfUnits x t) (2 ^ 24)
+unfolding halfUnits
+units-exact s zero t h k = round-exact binary32 s t (2 ^ 24) t 125 (pow-pos 24) (omega arith) (fine t 0 (omega arith) (omega arith)) (sym (mul-assoc t (2 ^ 125) (2 ^ 24)))
+units-exact s (suc x) t h k =
+    round-exact binary32 s ((1024 + t) * 2 ^ x) (2 ^ 24) (1024 + t) (x + 125) (pow-pos 24) (omega arith) (fine (1024 + t) x (omega arith) (omega arith))
+    (mul-assoc (1024 + t) (2 ^ x) (2 ^ 149)
+    ∙ ap (λ (z : ℕ). (1024 + t) * z) (sym (pow-add 2 x 149) ∙ ap (λ (z : ℕ). 2 ^ z) (sums x) ∙ pow-add 2 (x + 125) 24)
+    ∙ sym (mul-assoc (1024 + t) (2 ^ (x + 125)) (2 ^ 24)))
+
+pub half-exact : (w : ℕ) → w / 1024 % 32 < 31 → HasValue (halfOf w) (eqb (w / 32768 % 2) 1) (halfUnits (w / 1024 % 32) (w % 1024)) (2 ^ 24)
+unfolding halfOf halfFields
+half-exact w h =
+    let s = eqb (w / 32768 % 2) 1 in
+    let x = w / 1024 % 32 in
+    let t = w % 1024 in
+    subst (λ (b : Bool). HasValue (cond b (cond (eqb t 0) (inf s) nan) (round binary32 s (halfUnits x t) (2 ^ 24))) s (halfUnits x t) (2 ^ 24)) (sym (ne-eqb x 31 (λ e. lt-irrefl 0 (omega arith)))) (units-exact s x t h (omega arith))
