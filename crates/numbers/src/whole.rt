@@ -1,7 +1,13 @@
-// Whole numbers: the conversions between f32 and the 32-bit integers.
+// Whole numbers: the conversions between f32 and the 32-bit integers, the floor and the ceiling.
 ghost use mathlib.Core.Path.{_≡_};
-ghost use lib.IntN.{pos};
-ghost use lib.Ieee.{binary32, toUnsigned, ofInt};
+ghost use mathlib.Core.Bool.{false, not, cond};
+ghost use Prim.Native.Nat.{min};
+ghost use lib.IntN.{pos, negℤ};
+ghost use lib.Dec.{T};
+ghost use lib.Ieee.{fin, binary32, lt, toSigned, toUnsigned, ofInt};
+ghost use Rattle.numbers.specs.Words.{signOf};
+ghost use Rattle.numbers.specs.Whole.{wholeOf, floorOf, ceilOf};
+use crate::words;
 
 // Rust's `x as u32`.
 pub fn to_u32(x: f32) -> u32
@@ -24,4 +30,62 @@ pub fn from_u32(k: u32) -> f32
         return k as f32;
     }
     std::num::nearest_u32_to_f32(k)
+}
+
+// a with the sign s, at most the largest i32 and at least the smallest.
+fn capped(s: bool, a: u32) -> i32
+    ensures { λ r. ⌜ r ≡ cond s (negℤ (pos (min a 2147483648))) (pos (min a 2147483647)) ⌝ }
+{
+    if s {
+        if a > 2147483648 {
+            return -2147483648;
+        }
+        return (0 - (a as i64)) as i32;
+    }
+    if a > 2147483647 {
+        return 2147483647;
+    }
+    a as i32
+}
+
+// Rust's `x as i32`.
+pub fn to_i32(x: f32) -> i32
+    ensures { λ r. ⌜ r ≡ toSigned 31 x ⌝ }
+{
+    capped(words::is_negative(x), to_u32(words::abs(x)))
+}
+
+// a, of clear sign and below 2^23, as a whole number: rounded up or down.
+fn near(up: bool, a: f32) -> f32
+    requires { ⌜ T (not (signOf a)) ⌝ ∗ ⌜ T (lt a (fin false 1 (pos 23))) ⌝ }
+    ensures { λ r. ⌜ r ≡ wholeOf up a ⌝ }
+{
+    let t = from_u32(to_u32(a));
+    if !up {
+        return t;
+    }
+    if t < a { t + 1.0 } else { t }
+}
+
+// x as a whole number: away from zero, or towards it. From 2^23 on every float is whole.
+fn to_whole(away: bool, x: f32) -> f32
+    ensures { λ r. ⌜ r ≡ wholeOf away x ⌝ }
+{
+    let a = words::abs(x);
+    if a < 8388608.0 {
+        return words::turned(words::is_negative(x), near(away, a));
+    }
+    x
+}
+
+pub fn floor(x: f32) -> f32
+    ensures { λ r. ⌜ r ≡ floorOf x ⌝ }
+{
+    to_whole(words::is_negative(x), x)
+}
+
+pub fn ceil(x: f32) -> f32
+    ensures { λ r. ⌜ r ≡ ceilOf x ⌝ }
+{
+    to_whole(!words::is_negative(x), x)
 }
