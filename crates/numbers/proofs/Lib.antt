@@ -1,3 +1,4 @@
 pub mod Bits
 pub mod Halves
 pub mod Integers
+pub mod Wholes
