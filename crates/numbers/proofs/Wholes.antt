@@ -1,11 +1,11 @@
 -- A float below 2 ^ 23 as a whole number, by its truncation; and the sign put back. Assumes nothing.
 use mathlib.Core.Path.{_≡_, refl, sym, ap, _∙_, subst}
-use mathlib.Core.Bool.{Bool, true, false, not, cond, true≢false}
-use Prim.Native.Nat.{ℕ, zero, suc, _+_, _-_, _*_, _/_, _%_, _^_, _≤_, _<_, min}
-use native.Mathlib.Nat.{zero-lt-suc, mul-one, one-mul, le-trans, le-of-eq, le-of-lt, lt-of-not-le, not-le-of-lt, div-lt-iff-lt-mul}
+use mathlib.Core.Bool.{Bool, true, false, not, true≢false}
+use Prim.Native.Nat.{ℕ, _+_, _-_, _*_, _/_, _≤_, _<_, min}
+use native.Mathlib.Nat.{zero-lt-suc, mul-one, le-trans, le-of-eq, le-of-lt, lt-of-not-le, not-le-of-lt, div-lt-iff-lt-mul}
 use native.Mathlib.Omega.{arith}
 use lib.IntN.{ℤ, pos}
-use lib.Dec.{T, ltb, ltb→lt, nltb→le, lit≤}
+use lib.Dec.{T, ltb→lt, nltb→le, lit≤}
 use lib.Ieee.{Float, nan, inf, fin, binary32, up, down, round, neg, add, lt, fits, ofInt, toUnsigned}
 use lib.Ieee.Fits.{down-pos}
 use lib.Ieee.Exact.{HasValue}
@@ -13,7 +13,7 @@ use lib.Ieee.Back.{round-whole}
 use lib.Ieee.Order.{transfer}
 use Rattle.laws.specs.Dyadic.{add-value}
 use Rattle.numbers.specs.Words.{signOf, signed, absOf}
-use Rattle.numbers.specs.Whole.{quot, wholeOf}
+use Rattle.numbers.specs.Whole.{wholeOf}
 use Rattle.numbers.specs.WholeLaws.{quot-more, quot-same, whole-large, whole-neg}
 
 abbrev pub limit : Float

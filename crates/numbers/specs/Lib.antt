@@ -5,3 +5,5 @@ pub mod Order
 pub mod SelectLaws
 pub mod Whole
 pub mod WholeLaws
+pub mod Only
+pub mod Examples

@@ -2,8 +2,8 @@
 use mathlib.Core.Path.{_≡_, refl, sym, ap, _∙_, subst}
 use mathlib.Core.Logic.{_⊎_, inl, inr}
 use mathlib.Core.Bool.{Bool, true, false, not, cond}
-use Prim.Native.Nat.{ℕ, zero, suc, _+_, _-_, _*_, _/_, _%_, _^_, _≤_, _<_, min, zero-le, compare}
-use native.Mathlib.Nat.{zero-lt-suc, zero-mul, mul-one, mul-pos, add-zero, mod-lt, div-one, div-add-mod', div-mul-le-self, suc-mul, pow-succ', lt-irrefl, le-trans, le-of-lt, le-of-eq, lt-of-lt-of-le, lt-of-le-of-lt, div-lt-iff-lt-mul, mul-div-cancel}
+use Prim.Native.Nat.{ℕ, zero, suc, _+_, _-_, _*_, _/_, _%_, _^_, _≤_, _<_, min, compare}
+use native.Mathlib.Nat.{mul-one, add-zero, mod-lt, div-one, div-add-mod', div-mul-le-self, suc-mul, pow-succ', le-trans, le-of-lt, le-of-eq, div-lt-iff-lt-mul, mul-div-cancel}
 use native.Mathlib.Numerals.{add-one}
 use native.Mathlib.Omega.{arith}
 use lib.IntN.{ℤ, pos, negsuc, negℤ}
@@ -11,7 +11,7 @@ use lib.Arith.{digits-div}
 use lib.Dec.{T, ltb, ltb→lt, nltb→le, lit≤}
 use lib.Pow.{pow-pos}
 use lib.Ieee.{Float, nan, inf, fin, Format, binary32, prec, emax, low, up, down, size, nearest, odd, units, round, neg, fits, toSigned, toUnsigned}
-use lib.Ieee.Fits.{up-pos, down-pos, core, round-is, round-fits, nan-fits, inf-fits}
+use lib.Ieee.Fits.{down-pos, round-fits, nan-fits, inf-fits}
 use lib.Ieee.Exact.{HasValue}
 use lib.Ieee.Back.{round-whole}
 use Rattle.laws.specs.Same.{either}
@@ -43,6 +43,25 @@ pub quot-same : (n d : ℕ) → 0 < d → n ≤ n / d * d → quot true n d ≡ 
 quot-same n d D h =
     let q = n / d in
     ap (λ (z : ℕ). z / d) (keep n d (q * d) (n % d) (div-add-mod' n d) h) ∙ digits-div q (pred-lt d D)
+
+below-next : (n d q r : ℕ) → q * d + r ≡ n → r < d → n < (q + 1) * d
+below-next n d q r e h = omega arith
+
+-- rounded down it is at most n / d, and one more is above it; rounded up it is at least n / d, and one less is below it
+pub quot-down : (n d : ℕ) → 0 < d → (quot false n d * d ≤ n) × (n < (quot false n d + 1) * d)
+quot-down n d D = (div-mul-le-self n d, below-next n d (n / d) (n % d) (div-add-mod' n d) (mod-lt n D))
+
+up-more : (n d q k : ℕ) → k ≡ q + 1 → q * d < n → n < (q + 1) * d → (n ≤ k * d) × (k * d < n + d)
+up-more n d q k e h l = rw e (omega arith)
+
+up-same : (n d q k : ℕ) → k ≡ q → 0 < d → q * d ≤ n → n ≤ q * d → (n ≤ k * d) × (k * d < n + d)
+up-same n d q k e D h l = rw e (omega arith)
+
+pub quot-up : (n d : ℕ) → 0 < d → (n ≤ quot true n d * d) × (quot true n d * d < n + d)
+quot-up n d D = let h = quot-down n d D in elim (either (ltb (n / d * d) n)) [
+  | inl l ↦ let k = ltb→lt (n / d * d) n l in up-more n d (n / d) (quot true n d) (quot-more n d D k) k (h .1)
+  | inr l ↦ let k = nltb→le (n / d * d) n l in up-same n d (n / d) (quot true n d) (quot-same n d D k) D (h .0) k
+]
 
 quot-one : (u : Bool) (n : ℕ) → quot u n 1 ≡ n
 quot-one true n = ap (λ (z : ℕ). z / 1) (add-zero n) ∙ div-one n
@@ -93,6 +112,14 @@ whole-exact u s m e F = elim (either (ltb (m * up e) (8388608 * down e))) [
   | inl h ↦ small u s m e (ltb→lt (m * up e) (8388608 * down e) h)
   | inr h ↦ large u s m e F (nltb→le (m * up e) (8388608 * down e) h)
 ]
+
+pub floor-exact : (s : Bool) (m : ℕ) (e : ℤ) → T (fits binary32 (fin s m e)) → HasValue (floorOf (fin s m e)) s (quot s (m * up e) (down e)) 1
+unfolding floorOf signOf
+floor-exact s m e F = whole-exact s s m e F
+
+pub ceil-exact : (s : Bool) (m : ℕ) (e : ℤ) → T (fits binary32 (fin s m e)) → HasValue (ceilOf (fin s m e)) s (quot (not s) (m * up e) (down e)) 1
+unfolding ceilOf signOf
+ceil-exact s m e F = whole-exact (not s) s m e F
 
 -- ---- the other sign
 neg-odd : (d q k l : ℕ) → neg (odd d false q k l) ≡ odd d true q k l

@@ -1,5 +1,5 @@
 -- A float's sign and size, and the value of a binary16. Words are lib.Ieee's `ofBits binary32` and `toBits binary32`, and its `isNan` tells a NaN. Definitions only.
-use mathlib.Core.Bool.{Bool, true, false, cond}
+use mathlib.Core.Bool.{Bool, false, cond}
 use Prim.Native.Nat.{ℕ, zero, suc, _+_, _*_, _/_, _%_, _^_}
 use lib.Dec.{eqb}
 use lib.Ieee.{Float, nan, inf, fin, binary32, round, neg}

@@ -1,15 +1,15 @@
 -- What signs, sizes and binary16 promise. Assumes nothing.
 use mathlib.Core.Path.{_≡_, refl, sym, ap, _∙_, subst}
-use mathlib.Core.Bool.{Bool, true, false, not, cond}
-use Prim.Native.Nat.{ℕ, zero, suc, _+_, _-_, _*_, _/_, _%_, _^_, _≤_, _<_}
+use mathlib.Core.Bool.{Bool, cond}
+use Prim.Native.Nat.{ℕ, zero, suc, _+_, _-_, _*_, _/_, _%_, _^_, _<_}
 use native.Mathlib.Nat.{mul-assoc, lt-irrefl, lt-of-lt-of-le}
 use native.Mathlib.Omega.{arith}
-use lib.Dec.{T, eqb, lit<, lit≤}
+use lib.Dec.{T, eqb}
 use lib.Pow.{pow-pos, pow-add, pow-mono, shl-lt}
-use lib.Ieee.{Float, nan, inf, fin, binary32, round, isNan, fits}
+use lib.Ieee.{Float, nan, inf, fin, binary32, round, isNan}
 use lib.Ieee.Exact.{HasValue, round-exact}
 use borrow.Author.Tests.{ne-eqb}
-use Rattle.numbers.specs.Words.{signOf, signed, absOf, halfUnits, halfFields, halfOf}
+use Rattle.numbers.specs.Words.{halfUnits, halfFields, halfOf}
 
 pub only-nan : (x : Float) → T (isNan x) → x ≡ nan
 unfolding isNan

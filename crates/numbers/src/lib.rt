@@ -1,3 +1,3 @@
-pub mod words;
 pub mod select;
 pub mod whole;
+pub mod words;

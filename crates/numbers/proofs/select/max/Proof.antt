@@ -1,6 +1,5 @@
 -- `numbers::select::max` meets its contract. Assumes nothing.
 use borrow.Author.Needs.{needs}
-use mathlib.Core.Path.{_≡_, sym, _∙_}
 use Rattle.numbers.specs.Select.{maxOf}
 use Rattle.numbers.proofs.Bits.{nan-test}
 use Rattle.numbers.proofs.select.max.Statement.{statement}

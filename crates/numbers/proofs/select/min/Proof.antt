@@ -1,6 +1,5 @@
 -- `numbers::select::min` meets its contract. Assumes nothing.
 use borrow.Author.Needs.{needs}
-use mathlib.Core.Path.{_≡_, sym, _∙_}
 use Rattle.numbers.specs.Select.{minOf}
 use Rattle.numbers.proofs.Bits.{nan-test}
 use Rattle.numbers.proofs.select.min.Statement.{statement}

@@ -1,6 +1,5 @@
 -- `numbers::whole::capped` meets its contract. Assumes nothing.
 use borrow.Author.Needs.{needs}
-use mathlib.Core.Path.{_≡_, sym, ap, _∙_}
 use Rattle.numbers.proofs.Integers.{minus-fits, minus-narrow, minus, least, plus, most}
 use Rattle.numbers.proofs.whole.capped.Statement.{statement}
 use Rattle.numbers.proofs.whole.capped.Tie as tie
