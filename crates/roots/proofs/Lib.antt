@@ -1,0 +1,11 @@
+-- The laws that the proofs share.
+pub mod Laws
+pub mod Patterns
+pub mod Upward
+pub mod Packing
+pub mod Feeding
+pub mod Squares
+pub mod Cubes
+pub mod Sums
+pub mod Meaning
+pub mod Candidates

@@ -1,0 +1,108 @@
+-- What the four roots give where there is no ordinary number to take the root of: NaN, infinities, zeros, numbers below zero, and sums past the largest f32. Assumes nothing.
+use mathlib.Core.Path.{_≡_, refl, ap, _∙_}
+use mathlib.Core.Bool.{Bool, true, false}
+use Prim.Native.Nat.{ℕ, zero, suc, _+_, _*_, _/_, _^_}
+use native.Mathlib.Nat.{zero-mul, zero-div}
+use lib.IntN.{ℤ, pos}
+use lib.Dec.{T}
+use lib.Ieee.{Float, nan, inf, fin, binary32, up, down}
+use Rattle.laws.specs.Compare.{underZero}
+use Rattle.roots.specs.Root.{mag, nearestRoot, sqrtOf, cbrtOf, twoThirdsOf, hypotOf}
+
+-- ---- the square root
+pub sqrt-nan : sqrtOf nan ≡ nan
+unfolding sqrtOf
+sqrt-nan = refl
+
+pub sqrt-below-zero : (x : Float) → T (underZero x) → sqrtOf x ≡ nan
+unfolding sqrtOf
+sqrt-below-zero nan h = absurd h
+sqrt-below-zero (inf true) h = refl
+sqrt-below-zero (inf false) h = absurd h
+sqrt-below-zero (fin s zero e) h = absurd h
+sqrt-below-zero (fin true (suc m) e) h = refl
+sqrt-below-zero (fin false (suc m) e) h = absurd h
+
+pub sqrt-infinity : sqrtOf (inf false) ≡ inf false
+unfolding sqrtOf
+sqrt-infinity = refl
+
+-- a zero keeps its sign
+pub sqrt-zero : (s : Bool) (e : ℤ) → sqrtOf (fin s zero e) ≡ fin s zero e
+unfolding sqrtOf
+sqrt-zero s e = refl
+
+-- ---- the cube root, which keeps the sign of a zero and of an infinity
+pub cbrt-nan : cbrtOf nan ≡ nan
+unfolding cbrtOf
+cbrt-nan = refl
+
+pub cbrt-infinity : (s : Bool) → cbrtOf (inf s) ≡ inf s
+unfolding cbrtOf
+cbrt-infinity s = refl
+
+pub cbrt-zero : (s : Bool) (e : ℤ) → cbrtOf (fin s zero e) ≡ fin s zero e
+unfolding cbrtOf
+cbrt-zero s e = refl
+
+-- ---- the two-thirds power
+pub two-thirds-nan : twoThirdsOf nan ≡ nan
+unfolding twoThirdsOf
+two-thirds-nan = refl
+
+pub two-thirds-below-zero : (x : Float) → T (underZero x) → twoThirdsOf x ≡ nan
+unfolding twoThirdsOf
+two-thirds-below-zero nan h = absurd h
+two-thirds-below-zero (inf true) h = refl
+two-thirds-below-zero (inf false) h = absurd h
+two-thirds-below-zero (fin s zero e) h = absurd h
+two-thirds-below-zero (fin true (suc m) e) h = refl
+two-thirds-below-zero (fin false (suc m) e) h = absurd h
+
+pub two-thirds-infinity : twoThirdsOf (inf false) ≡ inf false
+unfolding twoThirdsOf
+two-thirds-infinity = refl
+
+-- +0 of either zero
+pub two-thirds-zero : (s : Bool) (e : ℤ) → twoThirdsOf (fin s zero e) ≡ fin false 0 (pos 0)
+unfolding twoThirdsOf
+two-thirds-zero s e = refl
+
+-- ---- the hypotenuse. Of an infinity and anything, a NaN too, it is the infinity
+pub hypot-infinity : (s : Bool) (y : Float) → hypotOf (inf s) y ≡ inf false
+unfolding hypotOf
+hypot-infinity s y = refl
+
+pub hypot-infinity-2 : (x : Float) (s : Bool) → hypotOf x (inf s) ≡ inf false
+unfolding hypotOf
+hypot-infinity-2 nan s = refl
+hypot-infinity-2 (inf t) s = refl
+hypot-infinity-2 (fin t m e) s = refl
+
+-- of a NaN and anything else, NaN
+pub hypot-nan : (y : Float) → ((s : Bool) → y ≡ inf s → ⊥) → hypotOf nan y ≡ nan
+unfolding hypotOf
+hypot-nan nan h = refl
+hypot-nan (inf s) h = absurd (h s refl)
+hypot-nan (fin s m e) h = refl
+
+pub hypot-nan-2 : (x : Float) → ((s : Bool) → x ≡ inf s → ⊥) → hypotOf x nan ≡ nan
+unfolding hypotOf
+hypot-nan-2 nan h = refl
+hypot-nan-2 (inf s) h = absurd (h s refl)
+hypot-nan-2 (fin s m e) h = refl
+
+no-size : (e : ℤ) → mag 0 e ≡ 0
+no-size e = ap (λ (x : ℕ). x * 2 ^ 149 / down e) (zero-mul (up e)) ∙ ap (λ (x : ℕ). x / down e) (zero-mul (2 ^ 149)) ∙ zero-div (down e)
+
+root-of-none : nearestRoot false 2 (0 * 0 + 0 * 0) ≡ fin false 0 (pos 0)
+unfolding nearestRoot
+root-of-none = refl
+
+-- of two zeros, +0
+pub hypot-zeros : (s : Bool) (e : ℤ) (t : Bool) (d : ℤ) → hypotOf (fin s zero e) (fin t zero d) ≡ fin false 0 (pos 0)
+unfolding hypotOf
+hypot-zeros s e t d =
+    ap (λ (x : ℕ). nearestRoot false 2 (x * x + mag 0 d * mag 0 d)) (no-size e)
+    ∙ ap (λ (y : ℕ). nearestRoot false 2 (0 * 0 + y * y)) (no-size d)
+    ∙ root-of-none
