@@ -1,5 +1,4 @@
 -- The laws that the proofs share.
-pub mod Laws
 pub mod Patterns
 pub mod Upward
 pub mod Packing
@@ -7,5 +6,4 @@ pub mod Feeding
 pub mod Squares
 pub mod Cubes
 pub mod Sums
-pub mod Meaning
 pub mod Candidates

@@ -15,7 +15,7 @@ use lib.Ieee.Fits.{down-pos, up-pos}
 use lib.Ieee.Bits.{ofBits-toBits, toBits-lt, nanBits-is, nanBits-above}
 use Rattle.roots.specs.Root.{mag, sqrtOf, cbrtOf, twoThirdsOf, hypotOf, nearestRoot}
 use Rattle.roots.specs.Parts.{magBits}
-use Rattle.roots.proofs.Laws.{mag-is}
+use Rattle.roots.specs.Laws.{mag-is}
 
 abbrev pub Worth : Float → Bool → ℕ → Type 0
 Worth v s a = HasValue v s a (2 ^ 149)

@@ -12,7 +12,7 @@ use Rattle.laws.specs.Compare.{underZero}
 use Rattle.roots.specs.Root.{mag, nearestRoot, sqrtOf, twoThirdsOf}
 use Rattle.roots.specs.Rules.{sqrt-nan, sqrt-below-zero, sqrt-infinity, two-thirds-nan, two-thirds-below-zero, two-thirds-infinity}
 use Rattle.roots.specs.Parts.{magBits}
-use Rattle.roots.proofs.Laws.{mag-is}
+use Rattle.roots.specs.Laws.{mag-is}
 use Rattle.roots.proofs.Patterns.{Worth, worth, infinite, no-zero, mag-pos, is-nan, is-number}
 
 pub record Upward (f : Float → Float) (g : ℕ → Float) : Type 0 where

@@ -1,5 +1,7 @@
--- What the contracts of `roots` cite. Definitions only.
+-- What the contracts of `roots` cite (Root, Parts), and what is proved of the roots: that they are the nearest (Nearest), their rules (Rules), worked values (Values).
 pub mod Root
-pub mod Parts
+pub mod Laws
+pub mod Nearest
 pub mod Rules
 pub mod Values
+pub mod Parts

@@ -1,15 +1,22 @@
--- What the four roots give where there is no ordinary number to take the root of: NaN, infinities, zeros, numbers below zero, and sums past the largest f32. Assumes nothing.
+-- What each of the four roots gives: the nearest f32 of a number above zero; and for NaN, infinities, zeros, numbers below zero and sums past the largest f32 what the rules say.
+-- The last of each, `sqrt-only` and its like: no second answer satisfies the contract. Assumes nothing.
 use mathlib.Core.Path.{_≡_, refl, ap, _∙_}
 use mathlib.Core.Bool.{Bool, true, false}
-use Prim.Native.Nat.{ℕ, zero, suc, _+_, _*_, _/_, _^_}
+use Prim.Native.Nat.{ℕ, zero, suc, _+_, _*_, _/_, _^_, _≤_}
 use native.Mathlib.Nat.{zero-mul, zero-div}
 use lib.IntN.{ℤ, pos}
-use lib.Dec.{T}
+use lib.Dec.{T, lit<}
 use lib.Ieee.{Float, nan, inf, fin, binary32, up, down}
 use Rattle.laws.specs.Compare.{underZero}
+use Rattle.laws.specs.Only.{Only, determined}
 use Rattle.roots.specs.Root.{mag, nearestRoot, sqrtOf, cbrtOf, twoThirdsOf, hypotOf}
+use Rattle.roots.specs.Nearest.{Nearest, nearest-is, past-largest}
 
 -- ---- the square root
+pub sqrt-nearest : (m : ℕ) (e : ℤ) → Nearest false 2 (mag (suc m) e * 2 ^ 149) (sqrtOf (fin false (suc m) e))
+unfolding sqrtOf
+sqrt-nearest m e = nearest-is false 2 (mag (suc m) e * 2 ^ 149) (lit< tt)
+
 pub sqrt-nan : sqrtOf nan ≡ nan
 unfolding sqrtOf
 sqrt-nan = refl
@@ -32,7 +39,14 @@ pub sqrt-zero : (s : Bool) (e : ℤ) → sqrtOf (fin s zero e) ≡ fin s zero e
 unfolding sqrtOf
 sqrt-zero s e = refl
 
+pub sqrt-only : (x : Float) → Only (λ r. r ≡ sqrtOf x)
+sqrt-only x = determined (sqrtOf x)
+
 -- ---- the cube root, which keeps the sign of a zero and of an infinity
+pub cbrt-nearest : (s : Bool) (m : ℕ) (e : ℤ) → Nearest s 3 (mag (suc m) e * 2 ^ 298) (cbrtOf (fin s (suc m) e))
+unfolding cbrtOf
+cbrt-nearest s m e = nearest-is s 3 (mag (suc m) e * 2 ^ 298) (lit< tt)
+
 pub cbrt-nan : cbrtOf nan ≡ nan
 unfolding cbrtOf
 cbrt-nan = refl
@@ -45,7 +59,14 @@ pub cbrt-zero : (s : Bool) (e : ℤ) → cbrtOf (fin s zero e) ≡ fin s zero e
 unfolding cbrtOf
 cbrt-zero s e = refl
 
+pub cbrt-only : (x : Float) → Only (λ r. r ≡ cbrtOf x)
+cbrt-only x = determined (cbrtOf x)
+
 -- ---- the two-thirds power
+pub two-thirds-nearest : (m : ℕ) (e : ℤ) → Nearest false 3 (mag (suc m) e * mag (suc m) e * 2 ^ 149) (twoThirdsOf (fin false (suc m) e))
+unfolding twoThirdsOf
+two-thirds-nearest m e = nearest-is false 3 (mag (suc m) e * mag (suc m) e * 2 ^ 149) (lit< tt)
+
 pub two-thirds-nan : twoThirdsOf nan ≡ nan
 unfolding twoThirdsOf
 two-thirds-nan = refl
@@ -68,7 +89,20 @@ pub two-thirds-zero : (s : Bool) (e : ℤ) → twoThirdsOf (fin s zero e) ≡ fi
 unfolding twoThirdsOf
 two-thirds-zero s e = refl
 
--- ---- the hypotenuse. Of an infinity and anything, a NaN too, it is the infinity
+pub two-thirds-only : (x : Float) → Only (λ r. r ≡ twoThirdsOf x)
+two-thirds-only x = determined (twoThirdsOf x)
+
+-- ---- the hypotenuse
+pub hypot-nearest : (s : Bool) (m : ℕ) (e : ℤ) (t : Bool) (n : ℕ) (d : ℤ) → Nearest false 2 (mag m e * mag m e + mag n d * mag n d) (hypotOf (fin s m e) (fin t n d))
+unfolding hypotOf
+hypot-nearest s m e t n d = nearest-is false 2 (mag m e * mag m e + mag n d * mag n d) (lit< tt)
+
+-- from the middle between the largest f32 and 2 ^ 277 units on, the infinity
+pub hypot-overflow : (s : Bool) (m : ℕ) (e : ℤ) (t : Bool) (n : ℕ) (d : ℤ) → (33554431 * 2 ^ 252) ^ 2 ≤ mag m e * mag m e + mag n d * mag n d → hypotOf (fin s m e) (fin t n d) ≡ inf false
+unfolding hypotOf
+hypot-overflow s m e t n d h = past-largest false 2 (mag m e * mag m e + mag n d * mag n d) (lit< tt) h
+
+-- of an infinity and anything, a NaN too, the infinity
 pub hypot-infinity : (s : Bool) (y : Float) → hypotOf (inf s) y ≡ inf false
 unfolding hypotOf
 hypot-infinity s y = refl
@@ -106,3 +140,6 @@ hypot-zeros s e t d =
     ap (λ (x : ℕ). nearestRoot false 2 (x * x + mag 0 d * mag 0 d)) (no-size e)
     ∙ ap (λ (y : ℕ). nearestRoot false 2 (0 * 0 + y * y)) (no-size d)
     ∙ root-of-none
+
+pub hypot-only : (x y : Float) → Only (λ r. r ≡ hypotOf x y)
+hypot-only x y = determined (hypotOf x y)
