@@ -15,9 +15,6 @@ use Rattle.roots.specs.Parts.{magBits}
 use Rattle.roots.proofs.Patterns.{worth, infinite, is-zero, sign-bits, cbrt-of, zero-stays, mag-pos, is-nan, is-number, no-nan-pattern}
 use Rattle.roots.proofs.cbrt.Statement.{statement}
 use Rattle.roots.proofs.cbrt.Tie as tie
-use Rattle.roots.proofs.cbrt.Reads as reads
-use Rattle.roots.proofs.cbrt.Lts as lts
-use Rattle.roots.proofs.cbrt_bits.Reads as cbrt-bits-reads
 
 -- what owning an `f32` tells: the format holds it
 held : (c : tie.Start) → T (fits binary32 (c .args .x))

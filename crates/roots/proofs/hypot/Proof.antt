@@ -14,11 +14,6 @@ use Rattle.roots.proofs.Patterns.{worth, infinite-at, nan-at, no-infini
 use borrow.Author.Needs.{needs}
 use Rattle.roots.proofs.hypot.Statement.{statement}
 use Rattle.roots.proofs.hypot.Tie as tie
-use Rattle.roots.proofs.hypot.Reads as reads
-use Rattle.roots.proofs.hypot.Lts as lts
-use Rattle.roots.proofs.hypot_bits.Reads as hypot-bits-reads
-use Rattle.roots.proofs.pattern.Reads as pattern-reads
-use Rattle.roots.proofs.sorted.Reads as sorted-reads
 
 -- what owning an `f32` tells: the format holds it
 held-x : (c : tie.Start) → T (fits binary32 (c .args .x))

@@ -1,0 +1,144 @@
+// The patterns of f32: their digits and exponents, and from the whole part of a root to the pattern of the nearest f32.
+ghost use mathlib.Core.Path.{_≡_};
+ghost use Prim.Native.Nat.{_+_, _-_, _*_, _%_, _^_, _≤_, _<_, min, compare};
+ghost use lib.Ieee.{nearest, size, toBits, binary32};
+ghost use Rattle.roots.specs.Parts.{Parted, Fielded, Scaled, packed};
+
+// A number m * 2 ^ t.
+pub(crate) struct Parts {
+    pub(crate) m: u64,
+    pub(crate) t: u64,
+}
+
+// The pattern of x without its sign; a NaN's is above the infinity's.
+pub(crate) fn pattern(x: f32) -> u32
+    ensures { λ r. ⌜ r ≡ toBits binary32 x % 2 ^ 31 ⌝ }
+{
+    if x != x {
+        return 0x7fc0_0000;
+    }
+    f32::to_bits(x) % 0x8000_0000
+}
+
+// m * 2 ^ 149 with all 24 digits in m.
+fn scale(n: u64) -> Parts
+    requires { ⌜ (0 < n) × (n < 2 ^ 23) ⌝ }
+    ensures { λ r. ⌜ Scaled (n * 2 ^ 149) (r .m) (r .t) ⌝ }
+{
+    let mut m = n;
+    let mut t = 149u64;
+    while m < 8388608 {
+        m = m * 2;
+        t = t - 1;
+    }
+    Parts { m, t }
+}
+
+// The number that the bits of a finite f32 above zero stand for, in units of 2 ^ -298.
+pub(crate) fn unpack(b: u32) -> Parts
+    requires { ⌜ (0 < b) × (b < 0x7f80_0000) ⌝ }
+    ensures { λ r. ⌜ Parted b (r .m) (r .t) ⌝ }
+{
+    let x = b / 8388608;
+    let f = b % 8388608;
+    if x == 0 {
+        scale(f as u64)
+    } else {
+        Parts {
+            m: (f + 8388608) as u64,
+            t: (x + 148) as u64,
+        }
+    }
+}
+
+// The digits and the exponent of a finite f32, from its bits: it is m * 2 ^ t units.
+pub(crate) fn fields(b: u32) -> Parts
+    requires { ⌜ b < 0x7f80_0000 ⌝ }
+    ensures { λ r. ⌜ Fielded b (r .m) (r .t) ⌝ }
+{
+    let x = b / 8388608;
+    let f = b % 8388608;
+    if x == 0 {
+        Parts { m: f as u64, t: 0 }
+    } else {
+        Parts {
+            m: (f + 8388608) as u64,
+            t: (x - 1) as u64,
+        }
+    }
+}
+
+// A root's whole part r and its remainder e: the number is r ^ k + e.
+pub(crate) struct Root {
+    pub(crate) r: u64,
+    pub(crate) e: u64,
+}
+
+// How many digits of r are past its first 25: i, and 2 ^ i.
+fn spare(r: u64) -> Parts
+    requires { ⌜ r < 2 ^ 40 ⌝ }
+    ensures { λ p. ⌜ (p .t ≡ size r - 25) × (p .m ≡ 2 ^ (size r - 25)) × (p .m ≤ r + 1) × (p .t ≤ r) ⌝ }
+{
+    let mut h = 1u64;
+    let mut i = 0u64;
+    while r / h > 33554431 {
+        h = h * 2;
+        i = i + 1;
+    }
+    Parts { m: h, t: i }
+}
+
+// q or the next number, as r is to the middle m. A remainder e counts as more than r.
+fn turn(q: u64, r: u64, m: u64, e: u64) -> u64
+    requires { ⌜ q < 2 ^ 40 ⌝ }
+    ensures { λ n. ⌜ (n ≡ nearest q (compare (2 * r + min e 1) (2 * m))) × (n ≤ q + 1) ⌝ }
+{
+    if r < m {
+        return q;
+    }
+    if m < r {
+        return q + 1;
+    }
+    if e == 0 {
+        return q + q % 2;
+    }
+    q + 1
+}
+
+// The pattern of the nearest f32, from a root with a digit to spare.
+pub(crate) fn pack(s: Root, c: u64) -> u32
+    requires { ⌜ (s .r < 2 ^ 40) × (c ≤ 1000) ⌝ }
+    ensures { λ b. ⌜ b ≡ packed (s .r) (s .e) c ⌝ }
+{
+    let r = s.r;
+    let e = s.e;
+    let p = spare(r);
+    let h = p.m;
+    let i = p.t;
+    let q = r / (h * 2);
+    let n = turn(q, r, (q * 2 + 1) * h, e);
+    let b = (c + i) * 8388608 + n;
+    if b < 0x7f80_0000 {
+        b as u32
+    } else {
+        0x7f80_0000
+    }
+}
+
+// The pattern of the f64 with the value of the f32 with the pattern b, where that is not subnormal.
+pub(crate) fn widened(b: u32) -> u64
+    requires { ⌜ b < 0x7f80_0000 ⌝ }
+    ensures { λ i. ⌜ i < 0x7ff0_0000_0000_0000 ⌝ }
+{
+    b as u64 * 536870912 + 0x3800_0000_0000_0000
+}
+
+// 24 digits of s, rounded.
+pub(crate) fn leading(s: f64) -> u64
+    ensures { λ q. ⌜ (2 ^ 23 ≤ q) × (q ≤ 2 ^ 24) ⌝ }
+{
+    if s != s {
+        return 8388608;
+    }
+    (f64::to_bits(s) % 4503599627370496 + 268435456) / 536870912 + 8388608
+}
