@@ -32,9 +32,6 @@ returns-2 c = zero-stays _ _ (is-zero _ (held (c .before .before)) (c .if2 .take
 mul-result : tie.Need-mul-result
 mul-result c = omega (arith, toBits-lt binary32 _ (held (c .before .before .before)))
 
-cbrt-bits-requires : tie.Need-cbrt-bits-requires
-cbrt-bits-requires c κs = search needs
-
 add-result : tie.Need-add-result
 add-result c = let h = c .cbrt-bits .ensures .number in omega (arith, toBits-lt binary32 _ (held (c .before .before .before .before)))
 
@@ -66,7 +63,7 @@ cbrt-spec =
     float-to-bits-b
     returns-2
     mul-result
-    cbrt-bits-requires
+    (λ c κs. search needs)
     add-result
     float-from-bits-result
     returns-3

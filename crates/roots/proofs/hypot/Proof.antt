@@ -56,18 +56,6 @@ either-way a b h l r S R = elim (S .is) [
   | inr (e, f) ↦ subst (λ (n : ℕ). rootBits 2 n r) (add-comm (magBits b * magBits b) (magBits a * magBits a)) (subst (λ (n : ℕ). rootBits 2 (magBits b * magBits b + magBits n * magBits n) r) f (subst (λ (n : ℕ). rootBits 2 (magBits n * magBits n + magBits l * magBits l) r) e R))
 ]
 
-pattern-requires : tie.Need-pattern-requires
-pattern-requires c κs = search needs
-
-pattern-requires-2 : tie.Need-pattern-requires-2
-pattern-requires-2 c κs = search needs
-
-sorted-requires : tie.Need-sorted-requires
-sorted-requires c κs = search needs
-
-hypot-bits-requires : tie.Need-hypot-bits-requires
-hypot-bits-requires c κs = search needs
-
 float-from-bits-result : tie.Need-float-from-bits-result
 float-from-bits-result c = root-no-nan _ _ _ (c .hypot-bits .ensures)
 
@@ -113,10 +101,10 @@ pub hypot-spec : {M : Type 1} → statement M
 hypot-spec =
     tie.close
     (tie.spec
-    pattern-requires
-    pattern-requires-2
-    sorted-requires
-    hypot-bits-requires
+    (λ c κs. search needs)
+    (λ c κs. search needs)
+    (λ c κs. search needs)
+    (λ c κs. search needs)
     float-from-bits-result
     returns
     float-from-bits-result-2

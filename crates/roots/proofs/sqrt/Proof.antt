@@ -30,9 +30,6 @@ returns-2 c = zero-stays _ _ (is-zero _ (held (c .before .before)) (c .if2 .take
 returns-3 : tie.Need-returns-3
 returns-3 c = zero-over-zero ∙ sym (negative _ _ sqrt-is _ (held (c .before .before .before)) (c .before .before .if1 .left) (c .before .if2 .left) (c .if3 .taken))
 
-sqrt-bits-requires : tie.Need-sqrt-bits-requires
-sqrt-bits-requires c κs = search needs
-
 float-from-bits-result : tie.Need-float-from-bits-result
 float-from-bits-result c = let h = c .sqrt-bits .ensures .number in no-nan-pattern (c .sqrt-bits .result) (omega arith)
 
@@ -53,7 +50,7 @@ sqrt-spec =
     float-to-bits-b
     returns-2
     returns-3
-    sqrt-bits-requires
+    (λ c κs. search needs)
     float-from-bits-result
     returns-4
     returns-5)

@@ -35,9 +35,6 @@ returns-2 c = plus-zero ∙ sym (zero-is _ _ (is-zero _ (held (c .before .before
 returns-3 : tie.Need-returns-3
 returns-3 c = zero-over-zero ∙ sym (negative _ _ two-thirds-is _ (held (c .before .before .before)) (c .before .before .if1 .left) (c .before .if2 .left) (c .if3 .taken))
 
-two-thirds-bits-requires : tie.Need-two-thirds-bits-requires
-two-thirds-bits-requires c κs = search needs
-
 float-from-bits-result : tie.Need-float-from-bits-result
 float-from-bits-result c = let h = c .two-thirds-bits .ensures .number in no-nan-pattern (c .two-thirds-bits .result) (omega arith)
 
@@ -58,7 +55,7 @@ two-thirds-spec =
     float-to-bits-b
     returns-2
     returns-3
-    two-thirds-bits-requires
+    (λ c κs. search needs)
     float-from-bits-result
     returns-4
     returns-5)

@@ -10,15 +10,6 @@ use Rattle.roots.proofs.Cubes.{small, small-r, right}
 use Rattle.roots.proofs.cube.cbrt_digits.Statement.{statement}
 use Rattle.roots.proofs.cube.cbrt_digits.Tie as tie
 
-unpack-requires : tie.Need-unpack-requires
-unpack-requires c κs = search needs
-
-add-power : tie.Need-add-power
-add-power c = search needs
-
-power-requires : tie.Need-power-requires
-power-requires c κs = search needs
-
 w-lt : (c : tie.After-power) → c .before .unpack .result .m * c .power .result * 137438953472 < 2 ^ 63
 w-lt c = let u = c .before .unpack .ensures in small _ _ 0 0 (u .least) (u .most) _ (c .power .ensures)
 
@@ -30,9 +21,6 @@ mul-w-2 c = omega (arith, w-lt c)
 
 feed3-requires : tie.Need-feed3-requires
 feed3-requires c κs = (lit≤ tt, w-lt c)
-
-add-pack : tie.Need-add-pack
-add-pack c = search needs
 
 pack-requires : tie.Need-pack-requires
 pack-requires c κs =
@@ -49,12 +37,12 @@ pub cbrt-digits-spec : {M : Type 1} → statement M
 cbrt-digits-spec =
     tie.close
     (tie.spec
-    unpack-requires
-    add-power
-    power-requires
+    (λ c κs. search needs)
+    (λ c. search needs)
+    (λ c κs. search needs)
     mul-w
     mul-w-2
     feed3-requires
-    add-pack
+    (λ c. search needs)
     pack-requires
     returns)

@@ -23,15 +23,6 @@ loop-holds c = (search needs, search needs, search needs, lit≤ tt, zero-add _ 
 step3-requires : tie.Need-step3-requires Inv-loop μ-loop
 step3-requires c κs = let v = c .before .loop .inv in (bounded 1 _ _ 26 (2 ^ 26) (v .3) (omega arith) (lit≤ tt), v .1, omega arith)
 
-mul-w : tie.Need-mul-w Inv-loop μ-loop
-mul-w c = omega arith
-
-add-i : tie.Need-add-i Inv-loop μ-loop
-add-i c = omega arith
-
-loop-less : tie.Need-loop-less Inv-loop μ-loop
-loop-less c = omega arith
-
 loop-again : tie.Need-loop-again Inv-loop μ-loop
 loop-again c =
     let v = c .before .before .loop .inv in
@@ -44,4 +35,4 @@ returns c = let v = c .before .loop .inv in record { value = done (2 ^ 63) 8 _ _
 pub feed3-spec : {M : Type 1} → statement M
 feed3-spec =
     tie.close
-    (tie.spec Inv-loop μ-loop loop-holds step3-requires mul-w add-i loop-less loop-again returns)
+    (tie.spec Inv-loop μ-loop loop-holds step3-requires (λ c. omega arith) (λ c. omega arith) (λ c. omega arith) loop-again returns)

@@ -7,9 +7,6 @@ use borrow.Author.Needs.{needs}
 use Rattle.roots.proofs.cube.power.Statement.{statement}
 use Rattle.roots.proofs.cube.power.Tie as tie
 
-shl-result : tie.Need-shl-result
-shl-result c = search needs
-
 small : (n : ℕ) → n < 3 → 1 * 2 ^ n % 2 ^ 64 ≡ 2 ^ n
 small zero h = refl
 small (suc zero) h = refl
@@ -20,4 +17,4 @@ returns : tie.Need-returns
 returns c = small (c .args .n) (c .pre)
 
 pub power-spec : {M : Type 1} → statement M
-power-spec = tie.close (tie.spec shl-result returns)
+power-spec = tie.close (tie.spec (λ c. search needs) returns)

@@ -8,14 +8,8 @@ use Rattle.roots.proofs.cube.root3.Tie as tie
 float-from-bits-v : tie.Need-float-from-bits-v
 float-from-bits-v c = no-nan-wide _ (omega arith)
 
-add-a : tie.Need-add-a
-add-a c = search needs
-
 float-from-bits-a : tie.Need-float-from-bits-a
 float-from-bits-a c = no-nan-wide _ (omega arith)
 
-returns : tie.Need-returns
-returns c = search needs
-
 pub root3-spec : {M : Type 1} → statement M
-root3-spec = tie.close (tie.spec float-from-bits-v add-a float-from-bits-a returns)
+root3-spec = tie.close (tie.spec float-from-bits-v (λ c. search needs) float-from-bits-a (λ c. search needs))

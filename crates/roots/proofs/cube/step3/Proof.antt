@@ -21,29 +21,11 @@ mul-t c = omega (arith, square-le (c .args .r) (c .pre .0))
 mul-t-2 : tie.Need-mul-t-2
 mul-t-2 c = omega (arith, square-le (c .args .r) (c .pre .0))
 
-mul-t-3 : tie.Need-mul-t-3
-mul-t-3 c = search needs
-
 add-t : tie.Need-add-t
 add-t c = omega (arith, square-le (c .args .r) (c .pre .0))
 
 add-t-2 : tie.Need-add-t-2
 add-t-2 c = omega (arith, square-le (c .args .r) (c .pre .0))
-
-mul-t12 : tie.Need-mul-t12
-mul-t12 c = search needs
-
-add-t13 : tie.Need-add-t13
-add-t13 c = search needs
-
-mul-t15 : tie.Need-mul-t15
-mul-t15 c = search needs
-
-returns : tie.Need-returns
-returns c = search needs
-
-returns-2 : tie.Need-returns-2
-returns-2 c = search needs
 
 pub step3-spec : {M : Type 1} → statement M
 step3-spec =
@@ -53,11 +35,11 @@ step3-spec =
     add-n
     mul-t
     mul-t-2
-    mul-t-3
+    (λ c. search needs)
     add-t
     add-t-2
-    mul-t12
-    add-t13
-    mul-t15
-    returns
-    returns-2)
+    (λ c. search needs)
+    (λ c. search needs)
+    (λ c. search needs)
+    (λ c. search needs)
+    (λ c. search needs))

@@ -7,17 +7,8 @@ use borrow.Author.Needs.{needs}
 use Rattle.roots.proofs.cube.thirds.Statement.{statement}
 use Rattle.roots.proofs.cube.thirds.Tie as tie
 
-mul-y : tie.Need-mul-y
-mul-y c = search needs
-
-add-y : tie.Need-add-y
-add-y c = search needs
-
 mul-z : tie.Need-mul-z
 mul-z c = omega (arith, square-le (c .args .m) (omega arith))
-
-power-requires : tie.Need-power-requires
-power-requires c κs = search needs
 
 mul-z-2 : tie.Need-mul-z-2
 mul-z-2 c = omega (arith, third-le _ _ _ (c .power .ensures) (c .before .pre .0) (c .before .pre .1) (c .before .pre .2))
@@ -34,9 +25,6 @@ sub-t8 c = omega (arith, third-le _ _ _ (c .power .ensures) (c .before .pre .0) 
 mul-t6 : tie.Need-mul-t6
 mul-t6 c = record { fits = lt-of-le-of-lt (third-fits _ _ _ (c .power .ensures) (c .before .pre .0) (c .before .pre .1) (c .before .pre .2) _) (lit< tt) }
 
-sub-t10 : tie.Need-sub-t10
-sub-t10 c = search needs
-
 add-t11 : tie.Need-add-t11
 add-t11 c = omega (arith, third-le _ _ _ (c .power .ensures) (c .before .pre .0) (c .before .pre .1) (c .before .pre .2))
 
@@ -47,15 +35,15 @@ pub thirds-spec : {M : Type 1} → statement M
 thirds-spec =
     tie.close
     (tie.spec
-    mul-y
-    add-y
+    (λ c. search needs)
+    (λ c. search needs)
     mul-z
-    power-requires
+    (λ c κs. search needs)
     mul-z-2
     add-h
     mul-t7
     sub-t8
     mul-t6
-    sub-t10
+    (λ c. search needs)
     add-t11
     returns)

@@ -10,20 +10,8 @@ use Rattle.roots.proofs.Cubes.{small-2, small-r-2, right-2, square-le}
 use Rattle.roots.proofs.cube.two_thirds_digits.Statement.{statement}
 use Rattle.roots.proofs.cube.two_thirds_digits.Tie as tie
 
-unpack-requires : tie.Need-unpack-requires
-unpack-requires c κs = search needs
-
 mul-w : tie.Need-mul-w
 mul-w c = let u = c .unpack .ensures in omega (arith, square-le (c .unpack .result .m) (u .most))
-
-mul-power : tie.Need-mul-power
-mul-power c = search needs
-
-sub-power : tie.Need-sub-power
-sub-power c = search needs
-
-power-requires : tie.Need-power-requires
-power-requires c κs = search needs
 
 w-lt : (c : tie.After-power) → c .before .unpack .result .m * c .before .unpack .result .m * c .power .result * 2048 < 2 ^ 63
 w-lt c = let u = c .before .unpack .ensures in small-2 _ _ 0 0 (u .least) (u .most) _ (c .power .ensures)
@@ -36,12 +24,6 @@ mul-w-3 c = omega (arith, w-lt c)
 
 feed3-requires : tie.Need-feed3-requires
 feed3-requires c κs = (lit≤ tt, w-lt c)
-
-mul-pack : tie.Need-mul-pack
-mul-pack c = search needs
-
-sub-pack : tie.Need-sub-pack
-sub-pack c = search needs
 
 pack-requires : tie.Need-pack-requires
 pack-requires c κs =
@@ -62,15 +44,15 @@ pub two-thirds-digits-spec : {M : Type 1} → statement M
 two-thirds-digits-spec =
     tie.close
     (tie.spec
-    unpack-requires
+    (λ c κs. search needs)
     mul-w
-    mul-power
-    sub-power
-    power-requires
+    (λ c. search needs)
+    (λ c. search needs)
+    (λ c κs. search needs)
     mul-w-2
     mul-w-3
     feed3-requires
-    mul-pack
-    sub-pack
+    (λ c. search needs)
+    (λ c. search needs)
     pack-requires
     returns)

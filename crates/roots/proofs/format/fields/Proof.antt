@@ -9,21 +9,6 @@ use Rattle.roots.proofs.Patterns.{tiny, full}
 use Rattle.roots.proofs.format.fields.Statement.{statement}
 use Rattle.roots.proofs.format.fields.Tie as tie
 
-cast-t6 : tie.Need-cast-t6
-cast-t6 c = search needs
-
-add-t7 : tie.Need-add-t7
-add-t7 c = search needs
-
-cast-t8 : tie.Need-cast-t8
-cast-t8 c = search needs
-
-sub-t9 : tie.Need-sub-t9
-sub-t9 c = search needs
-
-cast-t10 : tie.Need-cast-t10
-cast-t10 c = search needs
-
 returns : tie.Need-returns
 returns c = record { most = omega arith; place = omega arith; full = inl refl; normal = λ h. omega arith; bits = λ h. absurd (lt-irrefl 0 h); value = mul-one _ ∙ tiny _ (c .if1 .taken) }
 
@@ -31,4 +16,4 @@ returns-2 : tie.Need-returns-2
 returns-2 c = record { most = omega arith; place = refl; full = inr (omega arith); normal = λ h. omega arith; bits = λ h. omega arith; value = full _ (c .if1 .left) }
 
 pub fields-spec : {M : Type 1} → statement M
-fields-spec = tie.close (tie.spec cast-t6 add-t7 cast-t8 sub-t9 cast-t10 returns returns-2)
+fields-spec = tie.close (tie.spec (λ c. search needs) (λ c. search needs) (λ c. search needs) (λ c. search needs) (λ c. search needs) returns returns-2)

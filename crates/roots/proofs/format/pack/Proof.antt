@@ -23,12 +23,6 @@ middle r h l = at (r / (h * 2)) (div-mul-le-self r (h * 2))
     at : (q : ℕ) → q * (h * 2) ≤ r → (q * 2 + 1) * h ≤ 2 * r + 1
     at q k = omega arith
 
-spare-requires : tie.Need-spare-requires
-spare-requires c κs = search needs
-
-mul-q : tie.Need-mul-q
-mul-q c = search needs
-
 div-q : tie.Need-div-q
 div-q c = twice-pos _ _ (c .spare .ensures .1)
 
@@ -47,20 +41,11 @@ mul-turn-2 c = record { fits = lt-of-le-of-lt (middle (c .before .args .s .r) (c
 turn-requires : tie.Need-turn-requires
 turn-requires c κs = omega (arith, q-le c)
 
-add-b : tie.Need-add-b
-add-b c = search needs
-
-mul-b : tie.Need-mul-b
-mul-b c = search needs
-
 n-le : (c : tie.After-turn) → c .turn .result ≤ suc (c .before .before .args .s .r)
 n-le c = let h = q-le (c .before) in let k = c .turn .ensures .1 in omega arith
 
 add-b-2 : tie.Need-add-b-2
 add-b-2 c = omega (arith, n-le c)
-
-cast-result : tie.Need-cast-result
-cast-result c = search needs
 
 is : (c : tie.After-turn) → min ((c .before .before .args .c + c .before .spare .result .t) * 8388608 + c .turn .result) 0x7f80_0000 ≡ packed (c .before .before .args .s .r) (c .before .before .args .s .e) (c .before .before .args .c)
 is c = packed-is _ _ _ _ _ _ (c .before .spare .ensures .0) (c .before .spare .ensures .1) (c .turn .ensures .0)
@@ -75,16 +60,16 @@ pub pack-spec : {M : Type 1} → statement M
 pack-spec =
     tie.close
     (tie.spec
-    spare-requires
-    mul-q
+    (λ c κs. search needs)
+    (λ c. search needs)
     div-q
     mul-turn
     add-turn
     mul-turn-2
     turn-requires
-    add-b
-    mul-b
+    (λ c. search needs)
+    (λ c. search needs)
     add-b-2
-    cast-result
+    (λ c. search needs)
     returns
     returns-2)

@@ -17,8 +17,5 @@ returns c = nan-bits ∙ ap (λ (v : Float). toBits binary32 v % 2 ^ 31) (sym (i
 float-to-bits-result : tie.Need-float-to-bits-result
 float-to-bits-result c = is-number (c .before .args .x) (c .if1 .left)
 
-returns-2 : tie.Need-returns-2
-returns-2 c = search needs
-
 pub pattern-spec : {M : Type 1} → statement M
-pattern-spec = tie.close (tie.spec returns float-to-bits-result returns-2)
+pattern-spec = tie.close (tie.spec returns float-to-bits-result (λ c. search needs))

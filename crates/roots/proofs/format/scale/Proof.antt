@@ -21,9 +21,6 @@ moved m t j h l = lt-of-not-le (λ (g : j ≤ 149 - t). lt-irrefl m (lt-of-lt-of
 loop-holds : tie.Need-loop-holds Inv-loop μ-loop
 loop-holds c = (omega arith, omega arith, omega arith, refl)
 
-mul-m : tie.Need-mul-m Inv-loop μ-loop
-mul-m c = omega arith
-
 module _ (a m t : ℕ) (i : (t ≤ 149) × (m < 2 ^ 24) × (2 ^ (149 - t) ≤ m) × (m * 2 ^ t ≡ a)) (h : m < 2 ^ 23) where
   some : 126 < t
   some = let l = moved m t 23 (i .2) h in omega arith
@@ -51,4 +48,4 @@ returns c =
 
 pub scale-spec : {M : Type 1} → statement M
 scale-spec =
-    tie.close (tie.spec Inv-loop μ-loop loop-holds mul-m sub-t loop-less loop-again returns)
+    tie.close (tie.spec Inv-loop μ-loop loop-holds (λ c. omega arith) sub-t loop-less loop-again returns)

@@ -19,9 +19,6 @@ abbrev μ-loop : tie.MeasureT-loop
 loop-holds : tie.Need-loop-holds Inv-loop μ-loop
 loop-holds c = (omega arith, omega arith, refl, inl refl)
 
-div-loop : tie.Need-div-loop Inv-loop μ-loop
-div-loop c = omega arith
-
 long : (r h i : ℕ) → i < h → 33554431 < r / h → 33554432 * h ≤ r
 long r h i p t = le-div-iff-mul-le {k = h} (omega arith) .0 t
 
@@ -60,4 +57,4 @@ returns c =
 pub spare-spec : {M : Type 1} → statement M
 spare-spec =
     tie.close
-    (tie.spec Inv-loop μ-loop loop-holds div-loop mul-h add-i loop-less loop-again returns)
+    (tie.spec Inv-loop μ-loop loop-holds (λ c. omega arith) mul-h add-i loop-less loop-again returns)

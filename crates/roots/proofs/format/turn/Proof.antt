@@ -21,24 +21,15 @@ even q r m e h = sym (level q (2 * r + min e 1) (2 * m) h)
 returns : tie.Need-returns
 returns c = (down (c .before .args .q) (c .before .args .r) (c .before .args .m) (c .before .args .e) (c .if1 .taken), omega arith)
 
-add-result : tie.Need-add-result
-add-result c = search needs
-
 returns-2 : tie.Need-returns-2
 returns-2 c = let a = c .before .before .args in (up (a .q) (a .r) (a .m) (a .e) (omega arith), omega arith)
 
-add-result-2 : tie.Need-add-result-2
-add-result-2 c = search needs
-
 returns-3 : tie.Need-returns-3
 returns-3 c = let a = c .before .before .before .args in (even (a .q) (a .r) (a .m) (a .e) (omega arith), omega arith)
-
-add-result-3 : tie.Need-add-result-3
-add-result-3 c = search needs
 
 returns-4 : tie.Need-returns-4
 returns-4 c = let a = c .before .before .before .args in (up (a .q) (a .r) (a .m) (a .e) (omega arith), omega arith)
 
 pub turn-spec : {M : Type 1} → statement M
 turn-spec =
-    tie.close (tie.spec returns add-result returns-2 add-result-2 returns-3 add-result-3 returns-4)
+    tie.close (tie.spec returns (λ c. search needs) returns-2 (λ c. search needs) returns-3 (λ c. search needs) returns-4)

@@ -10,24 +10,6 @@ use borrow.Author.Needs.{needs}
 use Rattle.roots.proofs.format.unpack.Statement.{statement}
 use Rattle.roots.proofs.format.unpack.Tie as tie
 
-cast-scale : tie.Need-cast-scale
-cast-scale c = search needs
-
-scale-requires : tie.Need-scale-requires
-scale-requires c κs = search needs
-
-add-t7 : tie.Need-add-t7
-add-t7 c = search needs
-
-cast-t8 : tie.Need-cast-t8
-cast-t8 c = search needs
-
-add-t9 : tie.Need-add-t9
-add-t9 c = search needs
-
-cast-t10 : tie.Need-cast-t10
-cast-t10 c = search needs
-
 moved : (b : ℕ) → (b / 8388608 ≡ 0 → ⊥) → (b % 8388608 + 8388608) * 2 ^ (b / 8388608 + 148) ≡ magBits b * 2 ^ 149
 moved b n =
     let e : b / 8388608 + 148 ≡ b / 8388608 - 1 + 149 = omega arith in
@@ -46,4 +28,4 @@ returns-2 c =
 
 pub unpack-spec : {M : Type 1} → statement M
 unpack-spec =
-    tie.close (tie.spec cast-scale scale-requires add-t7 cast-t8 add-t9 cast-t10 returns returns-2)
+    tie.close (tie.spec (λ c. search needs) (λ c κs. search needs) (λ c. search needs) (λ c. search needs) (λ c. search needs) (λ c. search needs) returns returns-2)

@@ -22,15 +22,6 @@ loop-holds c = (search needs, search needs, search needs, le-of-eq (sym (mul-one
 step2-requires : tie.Need-step2-requires Inv-loop μ-loop
 step2-requires c κs = let v = c .before .loop .inv in (bounded _ _ _ _ (2 ^ 40) (v .3) (v .0) (c .before .before .pre .1), v .1, omega arith)
 
-mul-w : tie.Need-mul-w Inv-loop μ-loop
-mul-w c = omega arith
-
-add-i : tie.Need-add-i Inv-loop μ-loop
-add-i c = omega arith
-
-loop-less : tie.Need-loop-less Inv-loop μ-loop
-loop-less c = omega arith
-
 loop-again : tie.Need-loop-again Inv-loop μ-loop
 loop-again c =
     let v = c .before .before .loop .inv in
@@ -43,4 +34,4 @@ returns c = let v = c .before .loop .inv in record { value = done (2 ^ 62) 4 _ _
 pub feed2-spec : {M : Type 1} → statement M
 feed2-spec =
     tie.close
-    (tie.spec Inv-loop μ-loop loop-holds step2-requires mul-w add-i loop-less loop-again returns)
+    (tie.spec Inv-loop μ-loop loop-holds step2-requires (λ c. omega arith) (λ c. omega arith) (λ c. omega arith) loop-again returns)

@@ -10,23 +10,11 @@ use Rattle.roots.proofs.Squares.{small, r-lt, right}
 use Rattle.roots.proofs.square.sqrt_digits.Statement.{statement}
 use Rattle.roots.proofs.square.sqrt_digits.Tie as tie
 
-unpack-requires : tie.Need-unpack-requires
-unpack-requires c κs = search needs
-
-mul-w : tie.Need-mul-w
-mul-w c = search needs
-
-sub-w : tie.Need-sub-w
-sub-w c = search needs
-
 mul-w-2 : tie.Need-mul-w-2
 mul-w-2 c = record { fits = lt-trans (small _ _ _ (c .unpack .ensures)) (lit< tt) }
 
 feed2-requires : tie.Need-feed2-requires
 feed2-requires c κs = (lit≤ tt, lit≤ tt, small _ _ _ (c .unpack .ensures))
-
-sub-pack : tie.Need-sub-pack
-sub-pack c = search needs
 
 pack-requires : tie.Need-pack-requires
 pack-requires c κs = (lt-trans (r-lt _ _ _ (c .before .unpack .ensures) _ _ (c .feed2 .ensures)) (lit< tt), omega arith)
@@ -38,11 +26,11 @@ pub sqrt-digits-spec : {M : Type 1} → statement M
 sqrt-digits-spec =
     tie.close
     (tie.spec
-    unpack-requires
-    mul-w
-    sub-w
+    (λ c κs. search needs)
+    (λ c. search needs)
+    (λ c. search needs)
     mul-w-2
     feed2-requires
-    sub-pack
+    (λ c. search needs)
     pack-requires
     returns)

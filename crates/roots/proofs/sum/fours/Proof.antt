@@ -23,12 +23,6 @@ bound k i e h = le-trans (le-of-eq e) (pow-le-pow-right (lit< tt) h)
 mul-k : tie.Need-mul-k Inv-loop μ-loop
 mul-k c = let h = bound (c .before .loop .k) (c .before .loop .i) (c .before .loop .inv .1) (omega arith) in omega arith
 
-add-i : tie.Need-add-i Inv-loop μ-loop
-add-i c = omega arith
-
-loop-less : tie.Need-loop-less Inv-loop μ-loop
-loop-less c = omega arith
-
 loop-again : tie.Need-loop-again Inv-loop μ-loop
 loop-again c =
     let i = c .before .loop .i in
@@ -38,4 +32,4 @@ returns : tie.Need-returns Inv-loop μ-loop
 returns c = c .before .loop .inv .1 ∙ ap (λ (x : ℕ). 4 ^ x) (omega arith)
 
 pub fours-spec : {M : Type 1} → statement M
-fours-spec = tie.close (tie.spec Inv-loop μ-loop loop-holds mul-k add-i loop-less loop-again returns)
+fours-spec = tie.close (tie.spec Inv-loop μ-loop loop-holds mul-k (λ c. omega arith) (λ c. omega arith) loop-again returns)

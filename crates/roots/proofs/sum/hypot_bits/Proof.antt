@@ -7,21 +7,6 @@ use borrow.Author.Needs.{needs}
 use Rattle.roots.proofs.sum.hypot_bits.Statement.{statement}
 use Rattle.roots.proofs.sum.hypot_bits.Tie as tie
 
-hypot-digits-requires : tie.Need-hypot-digits-requires
-hypot-digits-requires c κs = search needs
-
-returns : tie.Need-returns
-returns c = search needs
-
-fields-requires : tie.Need-fields-requires
-fields-requires c κs = search needs
-
-fields-requires-2 : tie.Need-fields-requires-2
-fields-requires-2 c κs = search needs
-
-sub-d : tie.Need-sub-d
-sub-d c = search needs
-
 returns-2 : tie.Need-returns-2
 returns-2 c =
     let F = c .before .before .fields .ensures in
@@ -34,41 +19,8 @@ returns-2 c =
 squares-requires : tie.Need-squares-requires
 squares-requires c κs = (c .before .before .fields .ensures .normal (omega arith), c .before .before .fields .ensures .most, c .before .fields2 .ensures .most, c .if2 .left)
 
-guess-sum-requires : tie.Need-guess-sum-requires
-guess-sum-requires c κs = search needs
-
 mul-w : tie.Need-mul-w
 mul-w c = omega (arith, square-le _ (c .guess-sum .ensures .1))
-
-add-if3 : tie.Need-add-if3
-add-if3 c = search needs
-
-hypot-digits-requires-2 : tie.Need-hypot-digits-requires-2
-hypot-digits-requires-2 c κs = search needs
-
-returns-3 : tie.Need-returns-3
-returns-3 c = search needs
-
-add-if4 : tie.Need-add-if4
-add-if4 c = search needs
-
-hypot-digits-requires-3 : tie.Need-hypot-digits-requires-3
-hypot-digits-requires-3 c κs = search needs
-
-returns-4 : tie.Need-returns-4
-returns-4 c = search needs
-
-add-r : tie.Need-add-r
-add-r c = search needs
-
-mul-r : tie.Need-mul-r
-mul-r c = search needs
-
-add-r-2 : tie.Need-add-r-2
-add-r-2 c = search needs
-
-cast-result : tie.Need-cast-result
-cast-result c = search needs
 
 returns-5 : tie.Need-returns-5
 returns-5 c =
@@ -88,24 +40,24 @@ pub hypot-bits-spec : {M : Type 1} → statement M
 hypot-bits-spec =
     tie.close
     (tie.spec
-    hypot-digits-requires
-    returns
-    fields-requires
-    fields-requires-2
-    sub-d
+    (λ c κs. search needs)
+    (λ c. search needs)
+    (λ c κs. search needs)
+    (λ c κs. search needs)
+    (λ c. search needs)
     returns-2
     squares-requires
-    guess-sum-requires
+    (λ c κs. search needs)
     mul-w
-    add-if3
-    hypot-digits-requires-2
-    returns-3
-    add-if4
-    hypot-digits-requires-3
-    returns-4
-    add-r
-    mul-r
-    add-r-2
-    cast-result
+    (λ c. search needs)
+    (λ c κs. search needs)
+    (λ c. search needs)
+    (λ c. search needs)
+    (λ c κs. search needs)
+    (λ c. search needs)
+    (λ c. search needs)
+    (λ c. search needs)
+    (λ c. search needs)
+    (λ c. search needs)
     returns-5
     returns-6)

@@ -14,15 +14,6 @@ use Rattle.roots.proofs.sum.hypot_digits.Tie as tie
 small-place : (a b u : ℕ) → b ≤ a → a < 0x7f80_0000 → u ≡ b / 2 ^ 23 - 1 → u ≤ 1000
 small-place a b u h k e = omega arith
 
-fields-requires : tie.Need-fields-requires
-fields-requires c κs = search needs
-
-fields-requires-2 : tie.Need-fields-requires-2
-fields-requires-2 c κs = search needs
-
-sub-d : tie.Need-sub-d
-sub-d c = search needs
-
 returns : tie.Need-returns
 returns c =
     let F = c .before .before .fields .ensures in
@@ -31,9 +22,6 @@ returns c =
     let D = order _ _ _ _ (s .pre .0) (F .place) (G .place) in
     let p : 0 < c .before .before .fields .result .t = omega arith in
     magnitudes _ _ _ _ _ _ _ F G (far _ _ _ (F .most) (leading _ _ p (F .full)) (less _ _ _ _ (G .most) D (c .if1 .taken)) _ (F .bits p) (s .pre .1))
-
-fours-requires : tie.Need-fours-requires
-fours-requires c κs = search needs
 
 module _ (c : tie.After-fours) where
   F-most : c .before .before .before .fields .result .m < 2 ^ 24
@@ -72,9 +60,6 @@ w-lt c = lo-lt _ _ _ _ (F-most (c .before)) (G-most (c .before)) (c .before .bef
 mul-w : tie.Need-mul-w
 mul-w c = record { fits = lt-trans (w-lt c) (lit< tt) }
 
-add-feed2-2 : tie.Need-add-feed2-2
-add-feed2-2 c = search needs
-
 feed2-requires-2 : tie.Need-feed2-requires-2
 feed2-requires-2 c κs = (c .feed2 .ensures .rest, room _ _ _ _ (F-most (c .before)) (G-most (c .before)) (c .before .before .if1 .left) (c .before .fours .ensures) _ _ (c .feed2 .ensures), w-lt c)
 
@@ -96,11 +81,11 @@ pub hypot-digits-spec : {M : Type 1} → statement M
 hypot-digits-spec =
     tie.close
     (tie.spec
-    fields-requires
-    fields-requires-2
-    sub-d
+    (λ c κs. search needs)
+    (λ c κs. search needs)
+    (λ c. search needs)
     returns
-    fours-requires
+    (λ c κs. search needs)
     mul-y
     mul-feed2
     div-feed2
@@ -110,7 +95,7 @@ hypot-digits-spec =
     rem-w
     div-w
     mul-w
-    add-feed2-2
+    (λ c. search needs)
     feed2-requires-2
     pack-requires
     returns-2)

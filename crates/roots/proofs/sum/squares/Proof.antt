@@ -11,12 +11,6 @@ mul-z c = omega (arith, square-le (c .args .m) (omega arith))
 mul-z-2 : tie.Need-mul-z-2
 mul-z-2 c = omega (arith, square-le (c .args .n) (omega arith))
 
-mul-z-3 : tie.Need-mul-z-3
-mul-z-3 c = search needs
-
-shr-z : tie.Need-shr-z
-shr-z c = search needs
-
 add-z : tie.Need-add-z
 add-z c = omega (arith, sum-lt _ (c .args .n) (c .args .d) (c .pre .1) (c .pre .2))
 
@@ -30,4 +24,4 @@ returns : tie.Need-returns
 returns c = cut _ (sum-ge _ _ _ (c .pre .1) (c .pre .2) (c .pre .0)) (sum-lt _ _ _ (c .pre .1) (c .pre .2))
 
 pub squares-spec : {M : Type 1} → statement M
-squares-spec = tie.close (tie.spec mul-z mul-z-2 mul-z-3 shr-z add-z mul-t6 shr-t9 returns)
+squares-spec = tie.close (tie.spec mul-z mul-z-2 (λ c. search needs) (λ c. search needs) add-z mul-t6 shr-t9 returns)
