@@ -1,19 +1,18 @@
 -- What a pattern stands for, as a magnitude in units of 2 ^ -149 and a sign; and the square root of a value given so. Assumes nothing.
 use mathlib.Core.Path.{_≡_, refl, sym, ap, _∙_, subst}
-use mathlib.Core.Logic.{inl, inr, _⊎_}
 use mathlib.Core.Bool.{Bool, true, false, not, cond, true≢false}
 use Prim.Native.Nat.{ℕ, zero, suc, _+_, _-_, _*_, _/_, _%_, _^_, _≤_, _<_}
-use native.Mathlib.Nat.{lt-irrefl, mul-one, zero-mul, mul-pos, add-comm, lt-of-le-of-lt, le-refl, zero-lt-suc}
+use native.Mathlib.Nat.{lt-irrefl, mul-one, zero-mul, mul-pos, add-comm, zero-lt-suc}
 use native.Mathlib.Omega.{arith}
 use lib.Dec.{T, leb, ltb, eqb, nltb→le, leb→le, nleb→lt}
 use lib.Pow.{pow-pos}
-use borrow.Author.Tests.{lt-ltb, le-ltb, le-leb, lt-leb, ne-eqb}
+use borrow.Author.Tests.{lt-ltb, le-ltb, ne-eqb}
 use lib.Ieee.{Float, nan, inf, fin, binary32, binary64, up, down, odd, ofBits, toBits, ofFields, fits, isNan, nanBits, ne}
 use lib.Ieee.Compare.{differs-from-itself, nan-differs}
 use lib.Ieee.Exact.{HasValue, odd-sign}
 use lib.Ieee.Fits.{down-pos, up-pos}
 use lib.Ieee.Bits.{ofBits-toBits, toBits-lt, nanBits-is, nanBits-above}
-use Rattle.roots.specs.Root.{mag, sqrtOf, cbrtOf, twoThirdsOf, hypotOf, nearestRoot}
+use Rattle.roots.specs.Root.{mag, cbrtOf, hypotOf, nearestRoot}
 use Rattle.roots.specs.Parts.{magBits}
 use Rattle.roots.specs.Laws.{mag-is}
 

@@ -1,13 +1,13 @@
 -- The two roots that are NaN below zero, `sqrtOf` and `twoThirdsOf`, by the pattern of their argument: for any function f that is NaN below zero, and above it g of the magnitude. Assumes nothing.
 use mathlib.Core.Path.{_≡_, refl, sym, ap, _∙_, subst}
-use mathlib.Core.Bool.{Bool, true, false, not, true≢false}
+use mathlib.Core.Bool.{Bool, true, false, true≢false}
 use Prim.Native.Nat.{ℕ, zero, suc, _*_, _%_, _^_, _≤_, _<_}
 use native.Mathlib.Decide.{decLt}
 use native.Mathlib.Omega.{arith}
 use borrow.Author.Tests.{le-leb, lt-leb}
 use lib.IntN.{ℤ}
-use lib.Dec.{T, leb}
-use lib.Ieee.{Float, nan, inf, fin, binary32, ofBits, toBits, div, fits, isNan, ne}
+use lib.Dec.{T}
+use lib.Ieee.{Float, nan, inf, fin, binary32, ofBits, toBits, div, fits, ne}
 use Rattle.laws.specs.Compare.{underZero}
 use Rattle.roots.specs.Root.{mag, nearestRoot, sqrtOf, twoThirdsOf}
 use Rattle.roots.specs.Rules.{sqrt-nan, sqrt-below-zero, sqrt-infinity, two-thirds-nan, two-thirds-below-zero, two-thirds-infinity}

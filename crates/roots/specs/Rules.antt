@@ -6,7 +6,7 @@ use Prim.Native.Nat.{ℕ, zero, suc, _+_, _*_, _/_, _^_, _≤_}
 use native.Mathlib.Nat.{zero-mul, zero-div}
 use lib.IntN.{ℤ, pos}
 use lib.Dec.{T, lit<}
-use lib.Ieee.{Float, nan, inf, fin, binary32, up, down}
+use lib.Ieee.{Float, nan, inf, fin, up, down}
 use Rattle.laws.specs.Compare.{underZero}
 use Rattle.laws.specs.Only.{Only, determined}
 use Rattle.roots.specs.Root.{mag, nearestRoot, sqrtOf, cbrtOf, twoThirdsOf, hypotOf}

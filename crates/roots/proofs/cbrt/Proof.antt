@@ -1,14 +1,12 @@
 -- `roots::cbrt` meets its contract, by the pattern of x. Assumes nothing.
-use mathlib.Core.Path.{_≡_, refl, sym, ap, _∙_, subst}
-use mathlib.Core.Bool.{Bool, true, false, not, cond}
-use Prim.Native.Nat.{ℕ, _+_, _*_, _/_, _%_, _^_, _≤_, _<_}
-use native.Mathlib.Nat.{zero-add}
+use mathlib.Core.Path.{_≡_, sym, ap, _∙_, subst}
+use mathlib.Core.Bool.{not}
+use Prim.Native.Nat.{ℕ, _+_, _*_, _%_, _^_, _≤_, _<_}
 use native.Mathlib.Omega.{arith}
 use borrow.Author.Needs.{needs}
-use borrow.Author.Tests.{le-leb, lt-leb}
 use lib.Dec.{T, leb}
 use lib.Ieee.Bits.{toBits-lt}
-use lib.Ieee.{Float, nan, inf, binary32, ofBits, div, fits, toBits}
+use lib.Ieee.{Float, binary32, ofBits, fits, toBits}
 use Rattle.roots.specs.Root.{cbrtOf, nearestRoot}
 use Rattle.roots.specs.Rules.{cbrt-nan, cbrt-infinity, cbrt-zero}
 use Rattle.roots.specs.Parts.{magBits}

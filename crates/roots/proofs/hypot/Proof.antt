@@ -1,13 +1,13 @@
 -- `roots::hypot` meets its contract, by the patterns of x and y. Assumes nothing.
-use mathlib.Core.Path.{_≡_, refl, sym, ap, _∙_, subst}
+use mathlib.Core.Path.{_≡_, sym, ap, _∙_, subst}
 use mathlib.Core.Logic.{inl, inr}
-use mathlib.Core.Bool.{Bool, true, false, not, cond}
+use mathlib.Core.Bool.{false, not}
 use Prim.Native.Nat.{ℕ, _+_, _*_, _%_, _^_, _≤_, _<_}
 use native.Mathlib.Nat.{zero-add, add-comm}
 use native.Mathlib.Omega.{arith}
 use lib.Dec.{T, leb, lit≤}
-use lib.Ieee.{Float, nan, inf, binary32, ofBits, fits, toBits, nanBits}
-use Rattle.roots.specs.Root.{hypotOf, nearestRoot}
+use lib.Ieee.{Float, binary32, ofBits, fits, toBits, nanBits}
+use Rattle.roots.specs.Root.{hypotOf}
 use Rattle.roots.specs.Parts.{magBits, rootBits, Sorted}
 use Rattle.roots.specs.Rules.{hypot-infinity, hypot-infinity-2, hypot-nan, hypot-nan-2}
 use Rattle.roots.proofs.Patterns.{worth, infinite-at, nan-at, no-infinity, hypot-of, no-nan-pattern, plus-inf}

@@ -3,7 +3,6 @@ use mathlib.Core.Path.{ap, subst}
 use Prim.Native.Nat.{ℕ, _+_, _*_, _/_, _%_, _^_, _<_}
 use native.Mathlib.Nat.{lt-irrefl}
 use native.Mathlib.Omega.{arith}
-use Rattle.roots.specs.Parts.{magBits}
 use Rattle.roots.proofs.Patterns.{full}
 use Rattle.roots.proofs.Candidates.{times-le, cbrt-near}
 use borrow.Author.Needs.{needs}

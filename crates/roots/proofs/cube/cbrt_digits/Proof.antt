@@ -1,7 +1,7 @@
 -- `roots::cube::cbrt_digits` meets its contract, by the laws of `Cubes`. Assumes nothing.
-use mathlib.Core.Path.{_≡_, subst, sym, ap, _∙_}
-use Prim.Native.Nat.{ℕ, _*_, _^_, _≤_, _<_}
-use native.Mathlib.Nat.{lt-trans, lt-of-le-of-lt, mul-le-mul-left, mul-one, le-trans, le-of-eq, mul-assoc}
+use mathlib.Core.Path.{subst, sym, ap, _∙_}
+use Prim.Native.Nat.{ℕ, _*_, _^_, _<_}
+use native.Mathlib.Nat.{lt-trans, mul-assoc}
 use native.Mathlib.Omega.{arith}
 use borrow.Author.Needs.{needs}
 use lib.Dec.{lit<, lit≤}

@@ -1,11 +1,10 @@
 -- `roots::cube::feed3` meets its contract: what is read so far, with what is left, stays the number that came in, moved up by i digits. Assumes nothing.
-use mathlib.Core.Path.{_≡_, refl, sym, ap, _∙_}
-use Prim.Native.Nat.{ℕ, _+_, _*_, _/_, _%_, _-_, _^_, _≤_, _<_}
+use mathlib.Core.Path.{_≡_, sym, _∙_}
+use Prim.Native.Nat.{_+_, _*_, _-_, _^_, _≤_, _<_}
 use native.Mathlib.Nat.{zero-add, mul-one}
 use lib.Dec.{lit≤}
 use native.Mathlib.Omega.{arith}
 use borrow.Author.Needs.{needs}
-use Rattle.roots.specs.Parts.{Cubed}
 use Rattle.roots.proofs.Feeding.{fed, done, grown, bounded}
 use Rattle.roots.proofs.cube.feed3.Statement.{statement}
 use Rattle.roots.proofs.cube.feed3.Tie as tie

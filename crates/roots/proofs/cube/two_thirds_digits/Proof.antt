@@ -1,6 +1,6 @@
 -- `roots::cube::two_thirds_digits` meets its contract, by the laws of `Cubes`. Assumes nothing.
 use mathlib.Core.Path.{_≡_, subst, sym, ap, _∙_}
-use Prim.Native.Nat.{ℕ, _*_, _^_, _≤_, _<_}
+use Prim.Native.Nat.{ℕ, _*_, _^_, _<_}
 use native.Mathlib.Nat.{lt-trans, mul-assoc, mul-mul-mul-comm}
 use native.Mathlib.Omega.{arith}
 use borrow.Author.Needs.{needs}

@@ -1,7 +1,6 @@
 -- `roots::format::fields` meets its contract. Assumes nothing.
-use mathlib.Core.Path.{_≡_, refl, sym, ap, _∙_}
+use mathlib.Core.Path.{refl, _∙_}
 use mathlib.Core.Logic.{inl, inr}
-use Prim.Native.Nat.{ℕ, _+_, _-_, _*_, _/_, _%_, _^_, _<_}
 use native.Mathlib.Nat.{mul-one, lt-irrefl}
 use native.Mathlib.Omega.{arith}
 use borrow.Author.Needs.{needs}

@@ -1,11 +1,10 @@
 -- `roots::format::pack` meets its contract. Assumes nothing.
-use mathlib.Core.Path.{_≡_, refl, sym, ap, _∙_, subst}
-use Prim.Native.Nat.{ℕ, suc, zero, _+_, _-_, _*_, _/_, _^_, _≤_, _<_, min}
-use native.Mathlib.Nat.{le-trans, le-of-eq, lt-of-le-of-lt, div-le-self, div-mul-le-self}
+use mathlib.Core.Path.{_≡_, sym, subst}
+use Prim.Native.Nat.{ℕ, suc, _+_, _*_, _/_, _^_, _≤_, _<_, min}
+use native.Mathlib.Nat.{lt-of-le-of-lt, div-le-self, div-mul-le-self}
 use native.Mathlib.Omega.{arith}
 use borrow.Author.Needs.{needs}
 use lib.Pow.{pow-pos}
-use lib.Ieee.{size}
 use Rattle.roots.specs.Parts.{packed}
 use Rattle.roots.proofs.Packing.{packed-is}
 use Rattle.roots.proofs.format.pack.Statement.{statement}

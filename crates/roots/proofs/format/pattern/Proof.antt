@@ -1,6 +1,6 @@
 -- `roots::format::pattern` meets its contract. Assumes nothing.
 use mathlib.Core.Path.{_≡_, refl, sym, ap, _∙_}
-use Prim.Native.Nat.{ℕ, _%_, _^_}
+use Prim.Native.Nat.{_%_, _^_}
 use borrow.Author.Needs.{needs}
 use lib.Ieee.{Float, nan, binary32, toBits}
 use Rattle.roots.proofs.Patterns.{is-nan, is-number}

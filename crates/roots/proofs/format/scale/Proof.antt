@@ -1,10 +1,9 @@
 -- `roots::format::scale` meets its contract. The invariant: m * 2 ^ t stays n * 2 ^ 149, and m has at least 150 - t digits. Assumes nothing.
 use mathlib.Core.Path.{_≡_, refl, sym, ap, subst, _∙_}
-use Prim.Native.Nat.{ℕ, suc, _+_, _*_, _-_, _/_, _^_, _≤_, _<_}
-use native.Mathlib.Nat.{lt-of-le-of-lt, lt-of-lt-of-le, lt-of-not-le, lt-irrefl, le-trans, mul-assoc, pow-succ'}
+use Prim.Native.Nat.{ℕ, suc, _*_, _-_, _^_, _≤_, _<_}
+use native.Mathlib.Nat.{lt-of-lt-of-le, lt-of-not-le, lt-irrefl, le-trans, mul-assoc, pow-succ'}
 use native.Mathlib.Omega.{arith}
-use lib.Pow.{pow-mono, pow-lt}
-use Rattle.roots.specs.Parts.{Scaled}
+use lib.Pow.{pow-mono}
 use Rattle.roots.proofs.format.scale.Statement.{statement}
 use Rattle.roots.proofs.format.scale.Tie as tie
 

@@ -1,10 +1,9 @@
 -- `roots::square::feed2` meets its contract: what is read so far, with what is left, stays the number that came in, moved up by i digits. Assumes nothing.
-use mathlib.Core.Path.{_≡_, refl, sym, ap, _∙_}
-use Prim.Native.Nat.{ℕ, _+_, _*_, _/_, _%_, _-_, _^_, _≤_, _<_}
+use mathlib.Core.Path.{_≡_, sym}
+use Prim.Native.Nat.{_+_, _*_, _-_, _^_, _≤_, _<_}
 use native.Mathlib.Nat.{le-of-eq, mul-one}
 use native.Mathlib.Omega.{arith}
 use borrow.Author.Needs.{needs}
-use Rattle.roots.specs.Parts.{Squared}
 use Rattle.roots.proofs.Feeding.{fed, done, grown, bounded}
 use Rattle.roots.proofs.square.feed2.Statement.{statement}
 use Rattle.roots.proofs.square.feed2.Tie as tie

@@ -1,6 +1,6 @@
 -- `roots::square::sqrt_digits` meets its contract, by the laws of `Squares`. Assumes nothing.
 use mathlib.Core.Path.{subst, sym}
-use Prim.Native.Nat.{ℕ, _*_, _^_, _≤_, _<_}
+use Prim.Native.Nat.{_*_, _^_}
 use native.Mathlib.Nat.{lt-trans}
 use native.Mathlib.Omega.{arith}
 use borrow.Author.Needs.{needs}

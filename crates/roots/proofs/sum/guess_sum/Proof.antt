@@ -1,5 +1,4 @@
 -- `roots::sum::guess_sum` meets its contract. Assumes nothing.
-use native.Mathlib.Omega.{arith}
 use Rattle.roots.proofs.Patterns.{no-nan-wide, is-number}
 use borrow.Author.Needs.{needs}
 use Rattle.roots.proofs.sum.guess_sum.Statement.{statement}

@@ -1,13 +1,12 @@
 -- `roots::sum::hypot_digits` meets its contract, by the laws of `Sums`. Assumes nothing.
-use mathlib.Core.Path.{_≡_, refl, sym, ap, _∙_, subst}
-use mathlib.Core.Logic.{inl, inr, _⊎_}
-use Prim.Native.Nat.{ℕ, _+_, _-_, _*_, _/_, _%_, _^_, _≤_, _<_}
-use native.Mathlib.Nat.{lt-trans, lt-irrefl}
+use mathlib.Core.Path.{_≡_, sym, subst}
+use Prim.Native.Nat.{ℕ, _-_, _*_, _/_, _%_, _^_, _≤_, _<_}
+use native.Mathlib.Nat.{lt-trans}
 use native.Mathlib.Omega.{arith}
 use borrow.Author.Needs.{needs}
 use lib.Dec.{lit<, lit≤}
-use Rattle.roots.specs.Parts.{rootBits, magBits, Fielded}
-use Rattle.roots.proofs.Sums.{leading, order, magnitudes, far, less, k-pos, k-le, m-le, n-le, hi-le, lo-lt, room, r'-lt, near}
+use Rattle.roots.specs.Parts.{rootBits}
+use Rattle.roots.proofs.Sums.{leading, order, magnitudes, far, less, k-pos, m-le, n-le, hi-le, lo-lt, room, r'-lt, near}
 use Rattle.roots.proofs.sum.hypot_digits.Statement.{statement}
 use Rattle.roots.proofs.sum.hypot_digits.Tie as tie
 
