@@ -1,16 +1,17 @@
--- The f32 nearest to a root, ties to even, by comparing whole powers. Every finite f32 is a whole number of units of 2 ^ -149 (`mag`), so
--- the k-th root of a number is the root of a whole number `a` in the same units: √(n u) is √(n * 2 ^ 149) u, for u = 2 ^ -149. Definitions only.
+-- The four roots of f32: the f32 nearest to the exact root, ties to even, by comparing whole powers. Every finite f32 is a whole number of units of
+-- 2 ^ -149 (`mag`), so each of the roots is the k-th root of one whole number in the same units: √(n u) is √(n * 2 ^ 149) u, for u = 2 ^ -149. Definitions only;
+-- `Nearest` says without an algorithm what `nearestRoot` is, and proves it.
 use Prim.Native.Nat.{ℕ, zero, suc, _+_, _-_, _*_, _/_, _^_, compare}
 use mathlib.Core.Bool.{Bool, true, false, cond}
 use lib.IntN.{ℤ, pos}
 use lib.Dec.{leb}
 use lib.Ieee.{Float, nan, inf, fin, binary32, up, down, size, nearest, units}
 
--- |m * 2 ^ e| in units of 2 ^ -149
+-- m * 2 ^ e in units of 2 ^ -149: of every finite f32 exactly
 abbrev pub mag : ℕ → ℤ → ℕ
 mag m e = m * up e * 2 ^ 149 / down e
 
--- the whole part of the k-th root of a, digit by digit from 2 ^ (j - 1) down, on top of r
+-- the largest r with r ^ k at most a: `root`, found by trying binary digits from 2 ^ (j - 1) down on top of r
 unfoldable pub rootFrom : ℕ → ℕ → ℕ → ℕ → ℕ
 rootFrom k zero r a = r
 rootFrom k (suc j) r a = rootFrom k j (cond (leb ((r + 2 ^ j) ^ k) a) (r + 2 ^ j) r) a

@@ -65,7 +65,7 @@ pub fn two_thirds(x: f32) -> f32
     if a == 0 {
         return 0.0;
     }
-    if b >= 0x8000_0000 {
+    if 0x8000_0000 <= b {
         return 0.0 / 0.0;
     }
     if a < 0x7f80_0000 {
