@@ -20,49 +20,49 @@ pub(crate) fn pattern(x: f32) -> u32
     f32::to_bits(x) % 0x8000_0000
 }
 
-// m * 2 ^ 149 with all 24 digits in m.
+// n * 2 ^ 149 with all 24 digits in m: a subnormal's digits moved up.
 fn scale(n: u64) -> Parts
     requires { ⌜ (0 < n) × (n < 2 ^ 23) ⌝ }
     ensures { λ r. ⌜ Scaled (n * 2 ^ 149) (r .m) (r .t) ⌝ }
 {
     let mut m = n;
     let mut t = 149u64;
-    while m < 8388608 {
+    while m < 0x80_0000 {
         m = m * 2;
         t = t - 1;
     }
     Parts { m, t }
 }
 
-// The number that the bits of a finite f32 above zero stand for, in units of 2 ^ -298.
+// The finite f32 above zero with the pattern b, in units of 2 ^ -298.
 pub(crate) fn unpack(b: u32) -> Parts
     requires { ⌜ (0 < b) × (b < 0x7f80_0000) ⌝ }
     ensures { λ r. ⌜ Parted b (r .m) (r .t) ⌝ }
 {
-    let x = b / 8388608;
-    let f = b % 8388608;
+    let x = b / 0x80_0000;
+    let f = b % 0x80_0000;
     if x == 0 {
         scale(f as u64)
     } else {
         Parts {
-            m: (f + 8388608) as u64,
+            m: (f + 0x80_0000) as u64,
             t: (x + 148) as u64,
         }
     }
 }
 
-// The digits and the exponent of a finite f32, from its bits: it is m * 2 ^ t units.
+// The finite f32 with the pattern b, in units of 2 ^ -149: a subnormal keeps its few digits.
 pub(crate) fn fields(b: u32) -> Parts
     requires { ⌜ b < 0x7f80_0000 ⌝ }
     ensures { λ r. ⌜ Fielded b (r .m) (r .t) ⌝ }
 {
-    let x = b / 8388608;
-    let f = b % 8388608;
+    let x = b / 0x80_0000;
+    let f = b % 0x80_0000;
     if x == 0 {
         Parts { m: f as u64, t: 0 }
     } else {
         Parts {
-            m: (f + 8388608) as u64,
+            m: (f + 0x80_0000) as u64,
             t: (x - 1) as u64,
         }
     }
@@ -74,21 +74,21 @@ pub(crate) struct Root {
     pub(crate) e: u64,
 }
 
-// How many digits of r are past its first 25: i, and 2 ^ i.
+// How many binary digits of r are past its first 25: t, and m is 2 ^ t.
 fn spare(r: u64) -> Parts
     requires { ⌜ r < 2 ^ 40 ⌝ }
     ensures { λ p. ⌜ (p .t ≡ size r - 25) × (p .m ≡ 2 ^ (size r - 25)) × (p .m ≤ r + 1) × (p .t ≤ r) ⌝ }
 {
     let mut h = 1u64;
     let mut i = 0u64;
-    while r / h > 33554431 {
+    while r / h > 0x1ff_ffff {
         h = h * 2;
         i = i + 1;
     }
     Parts { m: h, t: i }
 }
 
-// q or the next number, as r is to the middle m. A remainder e counts as more than r.
+// q or the next number, as r is to the middle m, and at the middle the even one. A remainder e puts the root above r.
 fn turn(q: u64, r: u64, m: u64, e: u64) -> u64
     requires { ⌜ q < 2 ^ 40 ⌝ }
     ensures { λ n. ⌜ (n ≡ nearest q (compare (2 * r + min e 1) (2 * m))) × (n ≤ q + 1) ⌝ }
@@ -105,7 +105,8 @@ fn turn(q: u64, r: u64, m: u64, e: u64) -> u64
     q + 1
 }
 
-// The pattern of the nearest f32, from a root with a digit to spare.
+// The pattern of the f32 nearest to a root of which s has a digit more than the 24 that an f32 keeps, in units of 2 ^ (c - 150). Past the largest f32 it is
+// the infinity's.
 pub(crate) fn pack(s: Root, c: u64) -> u32
     requires { ⌜ (s .r < 2 ^ 40) × (c ≤ 1000) ⌝ }
     ensures { λ b. ⌜ b ≡ packed (s .r) (s .e) c ⌝ }
@@ -117,7 +118,7 @@ pub(crate) fn pack(s: Root, c: u64) -> u32
     let i = p.t;
     let q = r / (h * 2);
     let n = turn(q, r, (q * 2 + 1) * h, e);
-    let b = (c + i) * 8388608 + n;
+    let b = (c + i) * 0x80_0000 + n;
     if b < 0x7f80_0000 {
         b as u32
     } else {
@@ -125,20 +126,20 @@ pub(crate) fn pack(s: Root, c: u64) -> u32
     }
 }
 
-// The pattern of the f64 with the value of the f32 with the pattern b, where that is not subnormal.
+// The pattern of the f64 with the value of the f32 with the pattern b, where that is not subnormal: only a candidate is made of it.
 pub(crate) fn widened(b: u32) -> u64
     requires { ⌜ b < 0x7f80_0000 ⌝ }
     ensures { λ i. ⌜ i < 0x7ff0_0000_0000_0000 ⌝ }
 {
-    b as u64 * 536870912 + 0x3800_0000_0000_0000
+    b as u64 * 0x2000_0000 + 0x3800_0000_0000_0000
 }
 
-// 24 digits of s, rounded.
+// The first 24 binary digits of s, rounded: a candidate.
 pub(crate) fn leading(s: f64) -> u64
     ensures { λ q. ⌜ (2 ^ 23 ≤ q) × (q ≤ 2 ^ 24) ⌝ }
 {
     if s != s {
-        return 8388608;
+        return 0x80_0000;
     }
-    (f64::to_bits(s) % 4503599627370496 + 268435456) / 536870912 + 8388608
+    (f64::to_bits(s) % 0x10_0000_0000_0000 + 0x1000_0000) / 0x2000_0000 + 0x80_0000
 }

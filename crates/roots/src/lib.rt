@@ -1,16 +1,20 @@
 // Roots of f32, correctly rounded: the f32 nearest the exact root, ties to even.
-// Each function here sorts out NaN, infinities, zeros and signs, and hands the pattern of a finite number above zero to a module:
-// `square` and `cube` for the roots, `sum` for the root of a sum of squares. There a candidate from f64 arithmetic is checked exactly, and where the check
-// fails the root is taken digit by digit. `format` takes f32 patterns apart and puts them together. Patterns are without the sign, and 8388608 is 2 ^ 23.
+//
+// The four functions here sort out NaN, infinities, zeros and signs. The pattern of a finite number above zero, its sign left off, goes to a module:
+// `square` and `cube` for the roots of one number, `sum` for the root of a sum of squares. Each makes a candidate by f64 arithmetic and checks it exactly, by whole
+// squares or cubes; where it is not surely the nearest, the root is taken digit by digit. `format` takes patterns apart and puts them together.
+// An f32 pattern has its exponent from 2 ^ 23 on, 0x80_0000, and from 0x7f80_0000 on it is no finite number's.
+mod cube;
 mod format;
 mod square;
-mod cube;
 mod sum;
 
-use crate::format::{pattern};
-use crate::square::{sqrt_bits};
-use crate::cube::{cbrt_bits, two_thirds_bits};
-use crate::sum::{hypot_bits, sorted};
+use crate::cube::cbrt_bits;
+use crate::cube::two_thirds_bits;
+use crate::format::pattern;
+use crate::square::sqrt_bits;
+use crate::sum::hypot_bits;
+use crate::sum::sorted;
 ghost use mathlib.Core.Path.{_≡_};
 ghost use Rattle.roots.specs.Root.{sqrtOf, cbrtOf, twoThirdsOf, hypotOf};
 

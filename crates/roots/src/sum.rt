@@ -1,6 +1,11 @@
 // Roots of the sum of two squares: by a candidate that is checked, and digit by digit.
-use crate::format::{Parts, Root, fields, pack, widened};
-use crate::square::{feed2, guess2};
+use crate::format::Parts;
+use crate::format::Root;
+use crate::format::fields;
+use crate::format::pack;
+use crate::format::widened;
+use crate::square::feed2;
+use crate::square::guess2;
 ghost use mathlib.Core.Path.{_≡_};
 ghost use Prim.Native.Nat.{_+_, _*_, _/_, _^_, _≤_, _<_};
 ghost use Rattle.roots.specs.Parts.{Summed, Sorted, rootBits, magBits};
@@ -19,7 +24,8 @@ fn fours(d: u64) -> u64
     k
 }
 
-// The root of the sum of two squares, of patterns with the larger first. Where the exponents are far apart it is the larger.
+// The root of the sum of two squares, of patterns with the larger first, digit by digit: first the digits of m² + n² / 4 ^ d, then d + 1 more, those that
+// the division dropped. Where the exponents are more than 12 apart it is the larger.
 fn hypot_digits(a: u32, b: u32) -> u32
     requires { ⌜ (b ≤ a) × (a < 0x7f80_0000) ⌝ }
     ensures { λ r. ⌜ rootBits 2 (magBits a * magBits a + magBits b * magBits b) r ⌝ }
@@ -37,11 +43,11 @@ fn hypot_digits(a: u32, b: u32) -> u32
     let k = fours(d);
     let y = n * n;
     let s = feed2(Root { r: 0, e: 0 }, (m * m + y / k) * 4096, 25);
-    let w = y % k * (4611686018427387904 / k);
+    let w = y % k * (0x4000_0000_0000_0000 / k);
     pack(feed2(s, w, d + 1), u)
 }
 
-// 24 digits that may be those of the root of the sum of the squares.
+// A candidate: 24 digits that may be those of the root of the sum of the squares.
 fn guess_sum(a: u32, b: u32) -> u64
     requires { ⌜ (b ≤ a) × (a < 0x7f80_0000) ⌝ }
     ensures { λ q. ⌜ (2 ^ 23 ≤ q) × (q ≤ 2 ^ 24) ⌝ }
@@ -50,35 +56,35 @@ fn guess_sum(a: u32, b: u32) -> u64
     let y = f64::from_bits(widened(b));
     let v = x * x + y * y;
     if v != v {
-        return 8388608;
+        return 0x80_0000;
     }
     let i = f64::to_bits(v);
     if i < 0x7ff0_0000_0000_0000 {
         return guess2(i);
     }
-    8388608
+    0x80_0000
 }
 
-// What the squares of m * 2 ^ d and n sum to, cut to 48 digits: s * 4 ^ (d + g).
+// What the squares of m * 2 ^ d and n sum to, in units of 4 ^ (d + t) with the fraction dropped: 47 or 48 digits.
 fn squares(m: u64, n: u64, d: u64) -> Parts
     requires { ⌜ (2 ^ 23 ≤ m) × (m < 2 ^ 24) × (n < 2 ^ 24) × (d ≤ 12) ⌝ }
     ensures { λ p. ⌜ Summed (m * m + n * n / 2 ^ (d * 2)) (p .m) (p .t) ⌝ }
 {
     let z = m * m + (n * n >> d * 2);
-    let g = z / 281474976710656;
+    let g = z / 0x1_0000_0000_0000;
     Parts {
         m: z >> g * 2,
         t: g,
     }
 }
 
-// The root of the sum of two squares, of patterns with the larger first: a guess, and where that is not the nearest, digit by digit.
-// Where the exponents are far apart it is the larger.
+// The root of the sum of two squares, of patterns with the larger first, by a candidate. As in `sqrt_bits`, but s may have lost a fraction: so q is surely the
+// nearest only where s < q² + q. Where the exponents are more than 12 apart it is the larger.
 pub(crate) fn hypot_bits(a: u32, b: u32) -> u32
     requires { ⌜ (b ≤ a) × (a < 0x7f80_0000) ⌝ }
     ensures { λ r. ⌜ rootBits 2 (magBits a * magBits a + magBits b * magBits b) r ⌝ }
 {
-    if a < 8388608 {
+    if a < 0x80_0000 {
         return hypot_digits(a, b);
     }
     let p = fields(a);
@@ -102,7 +108,7 @@ pub(crate) fn hypot_bits(a: u32, b: u32) -> u32
     if w + q <= s {
         return hypot_digits(a, b);
     }
-    let r = (t + g) * 8388608 + q;
+    let r = (t + g) * 0x80_0000 + q;
     if r < 0x7f80_0000 {
         return r as u32;
     }
@@ -115,6 +121,7 @@ pub(crate) struct Pair {
     pub(crate) b: u32,
 }
 
+// a and b sorted. By value the choice compiles to selects, where a swap would branch.
 pub(crate) fn sorted(a: u32, b: u32) -> Pair
     ensures { λ p. ⌜ Sorted a b (p .a) (p .b) ⌝ }
 {
