@@ -1,7 +1,8 @@
--- What the contracts of `roots` cite (Root, Parts), and what is proved of the roots: that they are the nearest (Nearest), their rules (Rules), worked values (Values).
+-- What the contracts cite: `Root`, and inside the crate `Parts`. What `Root` means, said otherwise: `Nearest`. What is proved of it: `Laws`, `RootLaws`, `Rules`, `Values`.
 pub mod Root
-pub mod Laws
 pub mod Nearest
+pub mod Laws
+pub mod RootLaws
 pub mod Rules
 pub mod Values
 pub mod Parts

@@ -10,7 +10,8 @@ use lib.Ieee.{Float, nan, inf, fin, up, down}
 use Rattle.laws.specs.Compare.{underZero}
 use Rattle.laws.specs.Only.{Only, determined}
 use Rattle.roots.specs.Root.{mag, nearestRoot, sqrtOf, cbrtOf, twoThirdsOf, hypotOf}
-use Rattle.roots.specs.Nearest.{Nearest, nearest-is, past-largest}
+use Rattle.roots.specs.Nearest.{Nearest}
+use Rattle.roots.specs.RootLaws.{nearest-is, past-largest}
 
 -- ---- the square root
 pub sqrt-nearest : (m : ℕ) (e : ℤ) → Nearest false 2 (mag (suc m) e * 2 ^ 149) (sqrtOf (fin false (suc m) e))
