@@ -1,0 +1,40 @@
+// The C interface: each function is one of `maths` under a name that C and Rust can link. See
+// include/hinthevoun.h.
+ghost use mathlib.Core.Path.{_≡_};
+ghost use Rattle.maths.specs.Numbers.{halfOf};
+ghost use Rattle.maths.specs.Roots.{sqrtOf, hypotOf, cbrtOf, twoThirdsOf};
+
+#[no_mangle]
+pub extern "C" fn hinth_sqrt(x: f32) -> f32
+    ensures { λ r. ⌜ r ≡ sqrtOf x ⌝ }
+{
+    maths::sqrt(x)
+}
+
+#[no_mangle]
+pub extern "C" fn hinth_hypot(x: f32, y: f32) -> f32
+    ensures { λ r. ⌜ r ≡ hypotOf x y ⌝ }
+{
+    maths::hypot(x, y)
+}
+
+#[no_mangle]
+pub extern "C" fn hinth_cbrt(x: f32) -> f32
+    ensures { λ r. ⌜ r ≡ cbrtOf x ⌝ }
+{
+    maths::cbrt(x)
+}
+
+#[no_mangle]
+pub extern "C" fn hinth_two_thirds(x: f32) -> f32
+    ensures { λ r. ⌜ r ≡ twoThirdsOf x ⌝ }
+{
+    maths::two_thirds(x)
+}
+
+#[no_mangle]
+pub extern "C" fn hinth_half(word: u32) -> f32
+    ensures { λ r. ⌜ r ≡ halfOf word ⌝ }
+{
+    maths::half(word)
+}
