@@ -1,13 +1,13 @@
 -- What single floats and words say of NaN and of the sign. Assumes nothing.
 use mathlib.Core.Path.{_≡_, refl, sym, ap, _∙_, subst}
-use mathlib.Core.Bool.{Bool, true, false, not, _&&_, cond}
-use Prim.Native.Nat.{ℕ, zero, suc, _+_, _*_, _/_, _%_, _<_, _≤_}
-use lib.Dec.{T, leb, eqb, eqb-refl}
-use lib.Ieee.{Float, nan, inf, fin, binary32, up, down, odd, ofFields, ofBits, toBits, fits, isNan, nanBits, ne}
+use mathlib.Core.Bool.{Bool, true, false, not, cond}
+use Prim.Native.Nat.{ℕ, zero, suc, _+_, _/_, _%_, _<_, _≤_}
+use lib.Dec.{T, leb, eqb}
+use lib.Ieee.{Float, nan, inf, binary32, odd, ofFields, ofBits, toBits, fits, isNan, nanBits, ne}
 use lib.Ieee.Bits.{ofBits-toBits, nanBits-is, nanBits-above}
 use borrow.Author.Tests.{lt-ltb, le-ltb}
 use Rattle.numbers.specs.Words.{signOf}
-use Rattle.numbers.specs.WordsLaws.{only-nan}
+use Rattle.numbers.specs.WordsLaws.{only-nan, nan-test}
 
 -- ---- a test's outcome as a fact
 pub yes : {b : Bool} → b ≡ true → T b
@@ -16,18 +16,7 @@ yes p = rw p tt
 pub no : {b : Bool} → b ≡ false → T (not b)
 no p = rw p tt
 
--- ---- a float that differs from itself is a NaN
-both : (a : Bool) → T a → not (a && true) ≡ false
-both true t = refl
-
-pub nan-test : (x : Float) → ne x x ≡ isNan x
-unfolding ne isNan
-nan-test nan = refl
-nan-test (inf true) = refl
-nan-test (inf false) = refl
-nan-test (fin true m e) = both (eqb (m * up e * down e) (m * up e * down e)) (eqb-refl (m * up e * down e))
-nan-test (fin false m e) = both (eqb (m * up e * down e) (m * up e * down e)) (eqb-refl (m * up e * down e))
-
+-- ---- a float compared with itself
 pub is-nan : (x : Float) → ne x x ≡ true → x ≡ nan
 is-nan x h = only-nan x (yes (sym (nan-test x) ∙ h))
 

@@ -91,14 +91,6 @@ stayed (fin false m e) s h l =
     ap (λ (z : ℕ). round binary32 false z 1) (sym (quot-same (m * up e) (down e) (down-pos e) (cut-none (round binary32 false q 1) q m e (cut-value m e (under m e h)) l)))
 
 -- ---- the sign
-pub abs-clear : (x : Float) → T (not (signOf (absOf x)))
-unfolding signOf absOf signed neg
-abs-clear nan = tt
-abs-clear (inf true) = tt
-abs-clear (inf false) = tt
-abs-clear (fin true m e) = tt
-abs-clear (fin false m e) = tt
-
 pub with-sign : (u : Bool) (x : Float) → signed (signOf x) (wholeOf u (absOf x)) ≡ wholeOf u x
 unfolding signed signOf absOf
 with-sign u nan = refl

@@ -28,6 +28,7 @@ unfoldable pub halfUnits : ℕ → ℕ → ℕ
 halfUnits zero t = t
 halfUnits (suc x) t = (1024 + t) * 2 ^ x
 
+-- an exponent of all ones is an infinity or a NaN
 unfoldable pub halfFields : Bool → ℕ → ℕ → Float
 halfFields s x t = cond (eqb x 31) (cond (eqb t 0) (inf s) nan) (round binary32 s (halfUnits x t) (2 ^ 24))
 

@@ -1,21 +1,42 @@
 -- What signs, sizes and binary16 promise. Assumes nothing.
 use mathlib.Core.Path.{_≡_, refl, sym, ap, _∙_, subst}
-use mathlib.Core.Bool.{Bool, cond}
+use mathlib.Core.Bool.{Bool, true, false, not, _&&_, cond}
 use Prim.Native.Nat.{ℕ, zero, suc, _+_, _-_, _*_, _/_, _%_, _^_, _<_}
 use native.Mathlib.Nat.{mul-assoc, lt-irrefl, lt-of-lt-of-le}
 use native.Mathlib.Omega.{arith}
-use lib.Dec.{T, eqb}
+use lib.Dec.{T, eqb, eqb-refl}
 use lib.Pow.{pow-pos, pow-add, pow-mono, shl-lt}
-use lib.Ieee.{Float, nan, inf, fin, binary32, round, isNan}
+use lib.Ieee.{Float, nan, inf, fin, binary32, up, down, round, neg, ne, isNan}
 use lib.Ieee.Exact.{HasValue, round-exact}
 use borrow.Author.Tests.{ne-eqb}
-use Rattle.numbers.specs.Words.{halfUnits, halfFields, halfOf}
+use Rattle.numbers.specs.Words.{signOf, signed, absOf, halfUnits, halfFields, halfOf}
 
+-- ---- there is one NaN, and only a NaN differs from itself
 pub only-nan : (x : Float) → T (isNan x) → x ≡ nan
 unfolding isNan
 only-nan nan t = refl
 only-nan (inf s) t = absurd t
 only-nan (fin s m e) t = absurd t
+
+both : (a : Bool) → T a → not (a && true) ≡ false
+both true t = refl
+
+pub nan-test : (x : Float) → ne x x ≡ isNan x
+unfolding ne isNan
+nan-test nan = refl
+nan-test (inf true) = refl
+nan-test (inf false) = refl
+nan-test (fin true m e) = both (eqb (m * up e * down e) (m * up e * down e)) (eqb-refl (m * up e * down e))
+nan-test (fin false m e) = both (eqb (m * up e * down e) (m * up e * down e)) (eqb-refl (m * up e * down e))
+
+-- ---- a size has no sign
+pub abs-clear : (x : Float) → T (not (signOf (absOf x)))
+unfolding signOf absOf signed neg
+abs-clear nan = tt
+abs-clear (inf true) = tt
+abs-clear (inf false) = tt
+abs-clear (fin true m e) = tt
+abs-clear (fin false m e) = tt
 
 -- ---- a finite binary16 is read with no rounding
 fine : (u x : ℕ) → u < 2 ^ 11 → x < 31 → u * 2 ^ (x + 125) < 2 ^ (149 + 128)

@@ -1,7 +1,7 @@
 -- `numbers::select::max` meets its contract. Assumes nothing.
 use borrow.Author.Needs.{needs}
 use Rattle.numbers.specs.Select.{maxOf}
-use Rattle.numbers.proofs.Bits.{nan-test}
+use Rattle.numbers.specs.WordsLaws.{nan-test}
 use Rattle.numbers.proofs.select.max.Statement.{statement}
 use Rattle.numbers.proofs.select.max.Tie as tie
 

@@ -1,7 +1,7 @@
 -- `numbers::select::min` meets its contract. Assumes nothing.
 use borrow.Author.Needs.{needs}
 use Rattle.numbers.specs.Select.{minOf}
-use Rattle.numbers.proofs.Bits.{nan-test}
+use Rattle.numbers.specs.WordsLaws.{nan-test}
 use Rattle.numbers.proofs.select.min.Statement.{statement}
 use Rattle.numbers.proofs.select.min.Tie as tie
 

@@ -5,9 +5,10 @@ use mathlib.Core.Bool.{Bool, not}
 use lib.Dec.{T}
 use lib.Ieee.{Float, ofBits, lt}
 use Rattle.numbers.specs.Words.{signOf, signed}
+use Rattle.numbers.specs.WordsLaws.{abs-clear}
 use Rattle.numbers.specs.Whole.{wholeOf}
 use Rattle.numbers.proofs.Bits.{yes, no}
-use Rattle.numbers.proofs.Wholes.{limit, abs-clear, with-sign, kept}
+use Rattle.numbers.proofs.Wholes.{limit, with-sign, kept}
 use Rattle.numbers.proofs.whole.to_whole.Statement.{statement}
 use Rattle.numbers.proofs.whole.to_whole.Tie as tie
 

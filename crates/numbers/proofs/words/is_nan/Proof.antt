@@ -1,5 +1,5 @@
 -- `numbers::words::is_nan` meets its contract. Assumes nothing.
-use Rattle.numbers.proofs.Bits.{nan-test}
+use Rattle.numbers.specs.WordsLaws.{nan-test}
 use Rattle.numbers.proofs.words.is_nan.Statement.{statement}
 use Rattle.numbers.proofs.words.is_nan.Tie as tie
 
