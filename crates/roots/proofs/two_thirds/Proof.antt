@@ -33,7 +33,7 @@ returns-2 : tie.Need-returns-2
 returns-2 c = plus-zero ∙ sym (zero-is _ _ (is-zero _ (held (c .before .before)) (c .if2 .taken)) twoThirdsOf _ two-thirds-zero)
 
 returns-3 : tie.Need-returns-3
-returns-3 c = zero-over-zero ∙ sym (negative _ _ two-thirds-is _ (held (c .before .before .before)) (c .before .before .if1 .left) (c .before .if2 .left) (c .if3 .taken))
+returns-3 c = zero-over-zero ∙ sym (negative _ _ two-thirds-is (c .before .before .before .args .x) (held (c .before .before .before)) (c .before .before .if1 .left) (c .before .if2 .left) (omega arith))
 
 float-from-bits-result : tie.Need-float-from-bits-result
 float-from-bits-result c = let h = c .two-thirds-bits .ensures .number in no-nan-pattern (c .two-thirds-bits .result) (omega arith)
