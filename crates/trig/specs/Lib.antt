@@ -1,0 +1,4 @@
+pub mod Trig
+pub mod Signs
+pub mod TrigLaws
+pub mod TrigValues
