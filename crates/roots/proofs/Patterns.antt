@@ -1,4 +1,4 @@
--- What a pattern stands for, as a magnitude in units of 2 ^ -149 and a sign; and the square root of a value given so. Assumes nothing.
+-- What a pattern stands for, as a magnitude in units of 2 ^ -149 and a sign; and the roots of values given so. Assumes nothing.
 use mathlib.Core.Path.{_≡_, refl, sym, ap, _∙_, subst}
 use mathlib.Core.Bool.{Bool, true, false, not, cond, true≢false}
 use Prim.Native.Nat.{ℕ, zero, suc, _+_, _-_, _*_, _/_, _%_, _^_, _≤_, _<_}
