@@ -3,6 +3,7 @@
 ghost use mathlib.Core.Path.{_≡_};
 ghost use Rattle.maths.specs.Numbers.{halfOf};
 ghost use Rattle.maths.specs.Roots.{sqrtOf, hypotOf, cbrtOf, twoThirdsOf};
+ghost use Rattle.maths.specs.Trig.{sinOf, cosOf, atan2Of, asinOf, acosOf};
 
 #[no_mangle]
 pub extern "C" fn hinth_sqrt(x: f32) -> f32
@@ -37,4 +38,39 @@ pub extern "C" fn hinth_half(word: u32) -> f32
     ensures { λ r. ⌜ r ≡ halfOf word ⌝ }
 {
     maths::half(word)
+}
+
+#[no_mangle]
+pub extern "C" fn hinth_sin(x: f32) -> f32
+    ensures { λ r. ⌜ r ≡ sinOf x ⌝ }
+{
+    maths::sin(x)
+}
+
+#[no_mangle]
+pub extern "C" fn hinth_cos(x: f32) -> f32
+    ensures { λ r. ⌜ r ≡ cosOf x ⌝ }
+{
+    maths::cos(x)
+}
+
+#[no_mangle]
+pub extern "C" fn hinth_atan2(y: f32, x: f32) -> f32
+    ensures { λ r. ⌜ r ≡ atan2Of y x ⌝ }
+{
+    maths::atan2(y, x)
+}
+
+#[no_mangle]
+pub extern "C" fn hinth_asin(x: f32) -> f32
+    ensures { λ r. ⌜ r ≡ asinOf x ⌝ }
+{
+    maths::asin(x)
+}
+
+#[no_mangle]
+pub extern "C" fn hinth_acos(x: f32) -> f32
+    ensures { λ r. ⌜ r ≡ acosOf x ⌝ }
+{
+    maths::acos(x)
 }

@@ -20,3 +20,8 @@ pub use roots::cbrt;
 pub use roots::hypot;
 pub use roots::sqrt;
 pub use roots::two_thirds;
+pub use trig::acos;
+pub use trig::asin;
+pub use trig::atan2;
+pub use trig::cos;
+pub use trig::sin;
