@@ -1,0 +1,27 @@
+-- The operations of binary32, each rounded once, and the numbers nearest to decimals. Definitions only.
+use Prim.Native.Nat.{ℕ, _^_}
+use mathlib.Core.Bool.{false}
+use lib.Ieee.{Float, binary32, round, add, sub, mul, div}
+
+infixl 6 _⊕_
+abbrev pub _⊕_ : Float → Float → Float
+x ⊕ y = add binary32 x y
+
+infixl 6 _⊖_
+abbrev pub _⊖_ : Float → Float → Float
+x ⊖ y = sub binary32 x y
+
+infixl 7 _⊗_
+abbrev pub _⊗_ : Float → Float → Float
+x ⊗ y = mul binary32 x y
+
+infixl 7 _⊘_
+abbrev pub _⊘_ : Float → Float → Float
+x ⊘ y = div binary32 x y
+
+-- the value nearest to n / 10 ^ k, ties to even: what the source's literals are
+abbrev pub dec : ℕ → ℕ → Float
+dec n k = round binary32 false n (10 ^ k)
+
+abbrev pub whole : ℕ → Float
+whole n = dec n 0

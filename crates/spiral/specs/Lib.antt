@@ -1,0 +1,5 @@
+pub mod Binary32
+pub mod Util
+pub mod Euler
+pub mod Points
+pub mod Answers
