@@ -19,7 +19,7 @@ infixl 7 _⊘_
 abbrev pub _⊘_ : Float → Float → Float
 x ⊘ y = div binary32 x y
 
--- the value nearest to n / 10 ^ k, ties to even: what the source's literals are
+-- the value nearest to n / 10 ^ k, ties to even, as a literal is read: `dec 75 4` is the source's 7.5e-3
 abbrev pub dec : ℕ → ℕ → Float
 dec n k = round binary32 false n (10 ^ k)
 
