@@ -1,0 +1,60 @@
+//! Compares the exported functions with references that share no code with them, and times them.
+
+mod bench;
+mod exact;
+mod ffi;
+mod half;
+mod interface;
+mod random;
+mod report;
+mod roots;
+mod sweep;
+#[cfg(feature = "trig")]
+mod trig;
+
+use report::Report;
+use std::process::ExitCode;
+
+/// How much of the large sweeps to run.
+#[derive(Clone, Copy, PartialEq)]
+pub enum Extent {
+    /// What the gate runs.
+    Part,
+    /// All there is to compare.
+    Whole,
+}
+
+impl Extent {
+    /// Ten times as many random inputs for the whole.
+    fn scaled(self, times: u64) -> u64 {
+        if self == Extent::Whole { 10 * times } else { times }
+    }
+}
+
+fn main() -> ExitCode {
+    let words: Vec<String> = std::env::args().skip(1).collect();
+    match words.iter().map(String::as_str).collect::<Vec<_>>().as_slice() {
+        ["gate"] => checks(Extent::Part),
+        ["full"] => checks(Extent::Whole),
+        ["bench"] => {
+            bench::run();
+            ExitCode::SUCCESS
+        }
+        _ => {
+            eprintln!("usage: harness gate | full | bench");
+            ExitCode::from(2)
+        }
+    }
+}
+
+fn checks(extent: Extent) -> ExitCode {
+    let mut report = Report::default();
+    report.check("C header: a C program that uses it", interface::check);
+    roots::run(&mut report, extent);
+    #[cfg(feature = "trig")]
+    trig::run(&mut report, extent);
+    match report.close() {
+        true => ExitCode::SUCCESS,
+        false => ExitCode::FAILURE,
+    }
+}

@@ -1,0 +1,47 @@
+//! One line a check, and the count of checks passed and failed. Two times stand behind each: on the clock, and of the
+//! processors, which does not depend on what else the machine does.
+
+use crate::sweep::Tally;
+use std::ffi::c_long;
+use std::time::Instant;
+
+unsafe extern "C" {
+    /// C's processor time of this program, in microseconds.
+    safe fn clock() -> c_long;
+}
+
+#[derive(Default)]
+pub struct Report {
+    passed: u32,
+    failed: u32,
+}
+
+impl Report {
+    /// Runs a check and prints what it compared. A check that compared nothing has failed.
+    pub fn check(&mut self, what: &str, check: impl FnOnce() -> Tally) {
+        let (start, used) = (Instant::now(), clock());
+        let Tally { compared, failed, examples, worst } = check();
+        let (seconds, used) = (start.elapsed().as_secs_f64(), (clock() - used) as f64 / 1e6);
+        let passed = compared > 0 && failed == 0;
+        let verdict = if passed { "ok  " } else { "FAIL" };
+        print!("{verdict} {what}: {compared} compared, {failed} failed");
+        if let Some((error, words)) = worst {
+            let words: Vec<_> = words.iter().map(|w| format!("{w:#010x}")).collect();
+            print!(", worst error {error:.3e} at ({})", words.join(", "));
+        }
+        println!(" ({seconds:.1} s, processors {used:.1} s)");
+        for example in examples {
+            println!("       {example}");
+        }
+        match passed {
+            true => self.passed += 1,
+            false => self.failed += 1,
+        }
+    }
+
+    /// Prints the last line; whether all passed.
+    pub fn close(self) -> bool {
+        println!("harness: {} passed, {} failed", self.passed, self.failed);
+        self.failed == 0
+    }
+}
