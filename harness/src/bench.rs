@@ -1,7 +1,8 @@
 //! Nanoseconds a call, beside Rust's own functions. Nothing is asserted.
 //!
-//! Arguments are random, so no branch can be foreseen. Independent calls may overlap in the processor. Of dependent
-//! calls each waits for the answer before it; the first row shows what the waiting costs without any function.
+//! Arguments are random, so no branch can be foreseen. Independent calls may overlap in the processor; of dependent
+//! calls each waits for the answer before it. The best of many short rounds counts, so that other work on the machine
+//! disturbs little.
 
 use crate::ffi;
 use crate::random::Random;
@@ -9,18 +10,17 @@ use std::hint::black_box;
 use std::ops::Range;
 use std::time::Instant;
 
-const CALLS: usize = 200_000;
-const ROUNDS: usize = 25;
+const CALLS: usize = 20_000;
+const ROUNDS: usize = 200;
 
 type Pairs = Vec<[f32; 2]>;
 
 pub fn run() {
-    println!("ns a call            independent            dependent");
-    println!("                   ours     Rust          ours     Rust");
+    println!("ns a call          independent           dependent");
+    println!("                   ours     Rust         ours     Rust");
     let sizes = pairs(|r| of_exponents(107..147, r).abs());
     let alike = pairs(|r| of_exponents(125..129, r));
     let subnormal = pairs(|r| f32::from_bits(r.word() % (1 << 23)));
-    row("(nothing)", &sizes, |x, _| x, |x, _| x);
     row("sqrt", &sizes, |x, _| ffi::sqrt(x), |x, _| x.sqrt());
     row("sqrt, subnormal", &subnormal, |x, _| ffi::sqrt(x), |x, _| x.sqrt());
     row("hypot", &sizes, ffi::hypot, f32::hypot);
@@ -33,9 +33,11 @@ pub fn run() {
 
 #[cfg(feature = "trig")]
 fn trig(alike: &Pairs) {
+    use std::f32::consts::PI;
     let up_to = |limit: f32| pairs(move |r| (r.below(1 << 24) as f32 / (1 << 23) as f32 - 1.0) * limit);
     let large = pairs(|r| of_exponents(138..226, r));
-    for (range, angles) in [("to 0.7", up_to(0.7)), ("to π", up_to(3.1415)), ("to 1024", up_to(1024.)), ("to 1e30", large)] {
+    for (range, angles) in [("to 0.7", up_to(0.7)), ("to π", up_to(PI)), ("to 1024", up_to(1024.)), ("to 1e30", large)]
+    {
         row(&format!("sin {range}"), &angles, |x, _| ffi::sin(x), |x, _| x.sin());
         row(&format!("cos {range}"), &angles, |x, _| ffi::cos(x), |x, _| x.cos());
     }
@@ -59,13 +61,18 @@ fn pairs(number: impl Fn(&mut Random) -> f32) -> Pairs {
 fn row(name: &str, inputs: &Pairs, ours: impl Fn(f32, f32) -> f32, stock: impl Fn(f32, f32) -> f32) {
     let mut best = [f64::MAX; 4];
     for _ in 0..ROUNDS {
-        let now = [independent(inputs, &ours), independent(inputs, &stock), dependent(inputs, &ours), dependent(inputs, &stock)];
+        let now = [
+            independent(inputs, &ours),
+            independent(inputs, &stock),
+            dependent(inputs, &ours),
+            dependent(inputs, &stock),
+        ];
         for (best, now) in best.iter_mut().zip(now) {
             *best = best.min(now);
         }
     }
     let [a, b, c, d] = best;
-    println!("{name:<18} {a:>5.1}    {b:>5.1}         {c:>5.1}    {d:>5.1}");
+    println!("{name:<18} {a:>5.1}    {b:>5.1}        {c:>5.1}    {d:>5.1}");
 }
 
 fn independent(inputs: &Pairs, call: impl Fn(f32, f32) -> f32) -> f64 {

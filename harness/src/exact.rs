@@ -32,8 +32,10 @@ impl Scaled {
         Scaled { whole: 2 * whole + 1, exponent: exponent - 1 }
     }
 
+    #[inline(always)]
     fn power(self, k: u32) -> Scaled {
-        Scaled { whole: self.whole.pow(k), exponent: self.exponent * k as i32 }
+        let whole = (1..k).fold(self.whole, |product, _| product * self.whole);
+        Scaled { whole, exponent: self.exponent * k as i32 }
     }
 
     /// Compares two values above zero: first by the place of their leading digits; if those agree, the one with the
@@ -61,6 +63,7 @@ pub enum Expected {
 
 impl Expected {
     /// Whether the float with this word is a right answer.
+    #[inline(always)]
     pub fn admits(self, answer: u32) -> bool {
         match self {
             Expected::Nan => f32::from_bits(answer).is_nan(),
@@ -80,14 +83,16 @@ impl Expected {
 }
 
 /// Whether the root lies below the midpoint above the float, or on it and the float is even.
+#[inline(always)]
 fn reaches(word: u32, k: u32, of: Scaled) -> bool {
     match of.compare(Scaled::midpoint_above(word).power(k)) {
         Ordering::Less => true,
-        Ordering::Equal => word % 2 == 0,
+        Ordering::Equal => word.is_multiple_of(2),
         Ordering::Greater => false,
     }
 }
 
+#[inline(always)]
 fn is_nearest(word: u32, k: u32, of: Scaled) -> bool {
     word <= INFINITY && (word == INFINITY || reaches(word, k, of)) && (word == 0 || !reaches(word - 1, k, of))
 }

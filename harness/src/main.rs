@@ -34,21 +34,24 @@ impl Extent {
 fn main() -> ExitCode {
     let words: Vec<String> = std::env::args().skip(1).collect();
     match words.iter().map(String::as_str).collect::<Vec<_>>().as_slice() {
-        ["gate"] => checks(Extent::Part),
-        ["full"] => checks(Extent::Whole),
+        ["gate"] => checks(Extent::Part, ""),
+        ["gate", only] => checks(Extent::Part, only),
+        ["full"] => checks(Extent::Whole, ""),
+        ["full", only] => checks(Extent::Whole, only),
         ["bench"] => {
             bench::run();
             ExitCode::SUCCESS
         }
         _ => {
-            eprintln!("usage: harness gate | full | bench");
+            eprintln!("usage: harness gate [CHECK] | full [CHECK] | bench");
             ExitCode::from(2)
         }
     }
 }
 
-fn checks(extent: Extent) -> ExitCode {
-    let mut report = Report::default();
+/// Runs the checks whose names begin with `only`.
+fn checks(extent: Extent, only: &str) -> ExitCode {
+    let mut report = Report::new(only);
     report.check("C header: a C program that uses it", interface::check);
     roots::run(&mut report, extent);
     #[cfg(feature = "trig")]

@@ -10,15 +10,23 @@ unsafe extern "C" {
     safe fn clock() -> c_long;
 }
 
-#[derive(Default)]
+/// The checks run so far. Only those are run whose line begins with `only`.
 pub struct Report {
+    only: String,
     passed: u32,
     failed: u32,
 }
 
 impl Report {
+    pub fn new(only: &str) -> Report {
+        Report { only: only.to_string(), passed: 0, failed: 0 }
+    }
+
     /// Runs a check and prints what it compared. A check that compared nothing has failed.
     pub fn check(&mut self, what: &str, check: impl FnOnce() -> Tally) {
+        if !what.starts_with(&self.only) {
+            return;
+        }
         let (start, used) = (Instant::now(), clock());
         let Tally { compared, failed, examples, worst } = check();
         let (seconds, used) = (start.elapsed().as_secs_f64(), (clock() - used) as f64 / 1e6);
@@ -39,9 +47,9 @@ impl Report {
         }
     }
 
-    /// Prints the last line; whether all passed.
+    /// Prints the last line; whether there were checks and all passed.
     pub fn close(self) -> bool {
         println!("harness: {} passed, {} failed", self.passed, self.failed);
-        self.failed == 0
+        self.passed > 0 && self.failed == 0
     }
 }

@@ -1,12 +1,12 @@
 //! The four roots and binary16 against their references.
 
+use crate::Extent;
 use crate::exact::{self, Expected};
 use crate::ffi;
 use crate::half;
 use crate::random::Random;
 use crate::report::Report;
 use crate::sweep::{self, Tally, Words, same};
-use crate::Extent;
 
 pub fn run(report: &mut Report, extent: Extent) {
     report.check("worked values of the roots and binary16", worked_values);
@@ -14,7 +14,7 @@ pub fn run(report: &mut Report, extent: Extent) {
     report.check("exact reference: takes the processor's square root, refuses its neighbours", reference);
     report.check("sqrt: every word, against the processor", sqrt);
     let cubes = cube_words(extent);
-    let part = if extent == Extent::Whole { "every word" } else { "12 binades, subnormals, every 11th word" };
+    let part = if extent == Extent::Whole { "every word" } else { "12 binades, subnormals, every 31st word" };
     report.check(&format!("cbrt: {part}, exact"), || unary("cbrt", ffi::cbrt, exact::cbrt, &cubes));
     report.check(&format!("two_thirds: {part}, exact"), || {
         unary("two_thirds", ffi::two_thirds, exact::two_thirds, &cubes)
@@ -91,19 +91,24 @@ fn sqrt() -> Tally {
 }
 
 /// For the gate: cube roots repeat themselves every three binades, the exponent apart. So three whole binades at each
-/// end of the range, six in the middle, all subnormals and every 11th of all words, with both signs.
+/// end of the range, six in the middle, all subnormals and every 31st of all words, with both signs.
 fn cube_words(extent: Extent) -> Vec<Words> {
     if extent == Extent::Whole {
         return vec![Words::ALL];
     }
-    let mut sets = vec![Words { step: 11, ..Words::ALL }];
+    let mut sets = vec![Words { step: 31, ..Words::ALL }];
     for [first, last] in [[0, 0x01ff_ffff], [0x3f00_0000, 0x41ff_ffff], [0x7e00_0000, 0x7f80_0000]] {
         sets.extend([Words::every(first, last), Words::every(first, last).negated()]);
     }
     sets
 }
 
-fn unary(name: &str, ours: impl Fn(f32) -> f32 + Sync, right: impl Fn(u32) -> Expected + Sync, sets: &[Words]) -> Tally {
+fn unary(
+    name: &str,
+    ours: impl Fn(f32) -> f32 + Sync,
+    right: impl Fn(u32) -> Expected + Sync,
+    sets: &[Words],
+) -> Tally {
     sweep::words(sets, |word, tally| {
         let answer = ours(f32::from_bits(word)).to_bits();
         let expected = right(word);
@@ -123,8 +128,22 @@ fn hypot(x: u32, y: u32, tally: &mut Tally) {
 
 /// Zeros, the least and largest numbers of each kind, one and its neighbours, infinity, NaNs quiet and signalling.
 pub const SPECIAL: [u32; 16] = [
-    0, 1, 2, 0x007f_ffff, 0x0080_0000, 0x0080_0001, 0x3f7f_ffff, 0x3f80_0000, 0x3f80_0001, 0x4040_0000, 0x7f7f_fffe,
-    0x7f7f_ffff, 0x7f80_0000, 0x7f80_0001, 0x7fc0_0000, 0x7fff_ffff,
+    0,
+    1,
+    2,
+    0x007f_ffff,
+    0x0080_0000,
+    0x0080_0001,
+    0x3f7f_ffff,
+    0x3f80_0000,
+    0x3f80_0001,
+    0x4040_0000,
+    0x7f7f_fffe,
+    0x7f7f_ffff,
+    0x7f80_0000,
+    0x7f80_0001,
+    0x7fc0_0000,
+    0x7fff_ffff,
 ];
 
 fn hypot_special() -> Tally {

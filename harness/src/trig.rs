@@ -1,11 +1,11 @@
 //! The five trigonometric functions against Rust's own, and against recorded answers.
 
+use crate::Extent;
 use crate::ffi;
 use crate::random::Random;
 use crate::report::Report;
 use crate::roots::SPECIAL;
 use crate::sweep::{self, Tally, Words, same};
-use crate::Extent;
 use std::f32::consts::TAU;
 
 /// How far an answer may lie from Rust's.
@@ -77,7 +77,9 @@ fn outside(extent: Extent) -> Tally {
     let past_one = both_signs(Words { first: ONE + 1, last: u32::MAX >> 1, step });
     let mut total = sweep::words(&past_one, |word, tally| {
         let x = f32::from_bits(word);
-        tally.count(ffi::asin(x).is_nan() && ffi::acos(x).is_nan(), || format!("asin or acos({word:#010x}) is a number"));
+        tally.count(ffi::asin(x).is_nan() && ffi::acos(x).is_nan(), || {
+            format!("asin or acos({word:#010x}) is a number")
+        });
     });
     let not_finite = both_signs(Words { first: INFINITY, last: u32::MAX >> 1, step });
     total.add(sweep::words(&not_finite, |word, tally| {
