@@ -34,8 +34,7 @@ impl Report {
         let verdict = if passed { "ok  " } else { "FAIL" };
         print!("{verdict} {what}: {compared} compared, {failed} failed");
         if let Some((error, words)) = worst {
-            let words: Vec<_> = words.iter().map(|w| format!("{w:#010x}")).collect();
-            print!(", worst error {error:.3e} at ({})", words.join(", "));
+            print!(", worst error {error:.3e} at ({})", in_hex(&words));
         }
         println!(" ({seconds:.1} s, processors {used:.1} s)");
         for example in examples {
@@ -52,4 +51,8 @@ impl Report {
         println!("harness: {} passed, {} failed", self.passed, self.failed);
         self.passed > 0 && self.failed == 0
     }
+}
+
+pub fn in_hex(words: &[u32]) -> String {
+    words.iter().map(|word| format!("{word:#010x}")).collect::<Vec<_>>().join(", ")
 }

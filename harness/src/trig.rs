@@ -3,7 +3,7 @@
 use crate::Extent;
 use crate::ffi;
 use crate::random::Random;
-use crate::report::Report;
+use crate::report::{Report, in_hex};
 use crate::roots::SPECIAL;
 use crate::sweep::{self, Tally, Words, same};
 use std::f32::consts::TAU;
@@ -50,7 +50,7 @@ fn near(name: &str, ours: f32, stock: f32, words: &[u32], tally: &mut Tally) {
         tally.error(error, words);
     }
     let holds = same(ours, stock) || (error <= TOLERANCE && !(ours == 0.0 && stock == 0.0));
-    tally.count(holds, || format!("{name}({words:#010x?}) gave {ours:?}, Rust's is {stock:?}"));
+    tally.count(holds, || format!("{name}({}) gave {ours:?}, Rust's is {stock:?}", in_hex(words)));
 }
 
 fn unary(name: &str, ours: impl Fn(f32) -> f32 + Sync, stock: impl Fn(f32) -> f32 + Sync, sets: &[Words]) -> Tally {
