@@ -27,11 +27,9 @@ pub fn run() {
     row("hypot, like sizes", &alike, ffi::hypot, f32::hypot);
     row("cbrt", &sizes, |x, _| ffi::cbrt(x), |x, _| x.cbrt());
     row("two_thirds", &sizes, |x, _| ffi::two_thirds(x), |x, _| x.powf(2. / 3.));
-    #[cfg(feature = "trig")]
     trig(&alike);
 }
 
-#[cfg(feature = "trig")]
 fn trig(alike: &Pairs) {
     use std::f32::consts::PI;
     let up_to = |limit: f32| pairs(move |r| (r.below(1 << 24) as f32 / (1 << 23) as f32 - 1.0) * limit);

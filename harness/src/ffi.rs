@@ -22,7 +22,6 @@ exported! {
     hinth_half as half(word: u32);
 }
 
-#[cfg(feature = "trig")]
 exported! {
     hinth_sin as sin(x: f32);
     hinth_cos as cos(x: f32);

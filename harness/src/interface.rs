@@ -10,7 +10,6 @@ pub fn check() -> Tally {
     let compiled = output(
         Command::new("cc")
             .args(["-std=c99", "-pedantic", "-Wall", "-Wextra", "-Werror", "-O1"])
-            .args(if cfg!(feature = "trig") { &["-DTRIG"][..] } else { &[] })
             .arg("-I")
             .arg(root.join("include"))
             .arg(root.join("harness/c/interface.c"))

@@ -9,7 +9,6 @@ mod random;
 mod report;
 mod roots;
 mod sweep;
-#[cfg(feature = "trig")]
 mod trig;
 
 use report::Report;
@@ -54,7 +53,6 @@ fn checks(extent: Extent, only: &str) -> ExitCode {
     let mut report = Report::new(only);
     report.check("C header: a C program that uses it", interface::check);
     roots::run(&mut report, extent);
-    #[cfg(feature = "trig")]
     trig::run(&mut report, extent);
     match report.close() {
         true => ExitCode::SUCCESS,
