@@ -89,11 +89,13 @@ quartersOf a =
     let f = ofInt binary32 (pos k) in
     record { quarters = k; rest = a ⊖ f ⊗ f32 0x3fc91000 ⊖ f ⊗ f32 0xb6957800 ⊖ f ⊗ f32 0x2e85a309 }
 
--- the reduction: below 0.78125 the angle is its own rest, and above 1024 it is first taken % 2π
+-- a large angle, above 1024, taken % 2π
+unfoldable pub withinOf : Float → Float
+withinOf a = cond (le a (f32 0x44800000)) a (rem binary32 a twoPi)
+
+-- the reduction: below 0.78125 the angle is its own rest
 unfoldable pub reducedOf : Float → Turn
-reducedOf a =
-    cond (lt a (f32 0x3f480000)) (record { quarters = 0; rest = a })
-    (quartersOf (cond (le a (f32 0x44800000)) a (rem binary32 a twoPi)))
+reducedOf a = cond (lt a (f32 0x3f480000)) (record { quarters = 0; rest = a }) (quartersOf (withinOf a))
 
 -- sin (k π/2 + r)
 unfoldable pub curveOf : ℕ → Float → Float

@@ -5,7 +5,7 @@ use Prim.Native.Nat.{ℕ}
 use lib.Ieee.{Float, add, binary32, div, eq, isNan, le, lt, mul, neg, ofBits, ofInt, rem, sub, toBits, toUnsigned}
 use Rattle.numbers.specs.Words.{absOf, signOf, signed}
 use Rattle.roots.specs.Root.{sqrtOf}
-use Rattle.trig.specs.Trig.{acosNear, acosOf, angleOf, arcCosineOf, arcSineOf, asinNear, asinOf, atan2Of, atanNear, boundedOf, cosNear, cosOf, curveOf, sinNear, sinOf, slopeOf, reducedOf, quartersOf, waveOf}
+use Rattle.trig.specs.Trig.{acosNear, acosOf, angleOf, arcCosineOf, arcSineOf, asinNear, asinOf, atan2Of, atanNear, boundedOf, cosNear, cosOf, curveOf, sinNear, sinOf, slopeOf, reducedOf, quartersOf, waveOf, withinOf}
 
 -- what a function makes of each point
 abbrev table : (Float → Float) → List ℕ → List ℕ
@@ -15,11 +15,11 @@ abbrev angles : List ℕ
 angles = 0x00000000 ∷ 0x80000000 ∷ 0x00000001 ∷ 0x80000001 ∷ 0x007fffff ∷ 0x00800000 ∷ 0x39000000 ∷ 0xb9000000 ∷ 0x3dcccccd ∷ 0xbdcccccd ∷ 0x3e800000 ∷ 0x3f000000 ∷ 0x3f47ffff ∷ 0x3f480000 ∷ 0x3f490fda ∷ 0x3f490fdb ∷ 0x3f490fdc ∷ 0xbf490fdb ∷ 0x3f800000 ∷ 0xbf800000 ∷ 0x3fc90fda ∷ 0x3fc90fdb ∷ 0x3fc90fdc ∷ 0xbfc90fdb ∷ 0x4016cbe4 ∷ 0x40000000 ∷ 0x40400000 ∷ 0x40490fda ∷ 0x40490fdb ∷ 0x40490fdc ∷ 0xc0490fdb ∷ 0x4096cbe4 ∷ 0x40c90fdb ∷ 0xc0c90fdb ∷ 0x40e00000 ∷ 0x41200000 ∷ 0x42280000 ∷ 0x437ce5f1 ∷ 0x43b3d92c ∷ 0x44398cda ∷ 0x44442385 ∷ 0x447c1adf ∷ 0x447fffff ∷ 0x44800000 ∷ 0xc4800000 ∷ 0x44800001 ∷ 0xc4800001 ∷ 0x44fa0000 ∷ 0x47c35000 ∷ 0xc7c35000 ∷ 0x479d90df ∷ 0x6cb13bad ∷ 0x6ff9be45 ∷ 0x6f79be45 ∷ 0x7f7fffff ∷ 0xff7fffff ∷ 0x7f800000 ∷ 0xff800000 ∷ 0x7fc00000 ∷ 0xffc00001 ∷ []
 
 sin-values : table sinOf angles ≡ 0x00000000 ∷ 0x80000000 ∷ 0x00000001 ∷ 0x80000001 ∷ 0x007fffff ∷ 0x00800000 ∷ 0x39000000 ∷ 0xb9000000 ∷ 0x3dcc7577 ∷ 0xbdcc7577 ∷ 0x3e7d5777 ∷ 0x3ef57744 ∷ 0x3f344452 ∷ 0x3f344452 ∷ 0x3f3504f2 ∷ 0x3f3504f4 ∷ 0x3f3504f4 ∷ 0xbf3504f4 ∷ 0x3f576aa4 ∷ 0xbf576aa4 ∷ 0x3f800000 ∷ 0x3f800000 ∷ 0x3f800000 ∷ 0xbf800000 ∷ 0x3f3504f4 ∷ 0x3f68c7b7 ∷ 0x3e1081c3 ∷ 0x34222169 ∷ 0xb3bbbd2e ∷ 0xb4aeef4c ∷ 0x33bbbd2e ∷ 0xbf800000 ∷ 0x343bbd2e ∷ 0xb43bbd2e ∷ 0x3f283046 ∷ 0xbf0b44f7 ∷ 0xbf6aa128 ∷ 0x3f800000 ∷ 0x3f7ff7eb ∷ 0x3f34efb0 ∷ 0xbf3f2b64 ∷ 0x3d0083eb ∷ 0xbe226660 ∷ 0xbe225694 ∷ 0x3e225694 ∷ 0xbe223e4f ∷ 0x3e223e4f ∷ 0x3f6e1869 ∷ 0x3d1dd127 ∷ 0xbd1dd127 ∷ 0xbf347018 ∷ 0xbe89fb2c ∷ 0xbe3605e2 ∷ 0x3f7efa8e ∷ 0x3f7caeb4 ∷ 0xbf7caeb4 ∷ 0x7fc00000 ∷ 0x7fc00000 ∷ 0x7fc00000 ∷ 0x7fc00000 ∷ []
-unfolding sinOf absOf signOf signed reducedOf quartersOf curveOf waveOf sinNear cosNear boundedOf neg add sub mul rem lt le toUnsigned ofInt ofBits toBits
+unfolding sinOf absOf signOf signed reducedOf withinOf quartersOf curveOf waveOf sinNear cosNear boundedOf neg add sub mul rem lt le toUnsigned ofInt ofBits toBits
 sin-values = refl
 
 cos-values : table cosOf angles ≡ 0x3f800000 ∷ 0x3f800000 ∷ 0x3f800000 ∷ 0x3f800000 ∷ 0x3f800000 ∷ 0x3f800000 ∷ 0x3f800000 ∷ 0x3f800000 ∷ 0x3f7eb898 ∷ 0x3f7eb898 ∷ 0x3f780aa5 ∷ 0x3f60a940 ∷ 0x3f35c4c8 ∷ 0x3f35c4c8 ∷ 0x3f3504f4 ∷ 0x3f3504f3 ∷ 0x3f3504f2 ∷ 0x3f3504f3 ∷ 0x3f0a5140 ∷ 0x3f0a5140 ∷ 0x33a22169 ∷ 0xb33bbd2e ∷ 0xb42eef4c ∷ 0xb33bbd2e ∷ 0xbf3504f2 ∷ 0xbed51132 ∷ 0xbf7d7026 ∷ 0xbf800000 ∷ 0xbf800000 ∷ 0xbf800000 ∷ 0xbf800000 ∷ 0x324cde2e ∷ 0x3f800000 ∷ 0x3f800000 ∷ 0x3f40ffbd ∷ 0xbf56cd64 ∷ 0xbecccae0 ∷ 0xb18fd1de ∷ 0x3c80a366 ∷ 0x3f351a32 ∷ 0x3f2a43e3 ∷ 0xbf7fdfbc ∷ 0x3f7cc293 ∷ 0x3f7cc335 ∷ 0x3f7cc335 ∷ 0x3f7cc42f ∷ 0x3f7cc42f ∷ 0xbebc1ce1 ∷ 0xbf7fcf56 ∷ 0xbf7fcf56 ∷ 0xbf359954 ∷ 0x3f76874c ∷ 0xbf7bec4e ∷ 0xbdb6c086 ∷ 0xbe245241 ∷ 0xbe245241 ∷ 0x7fc00000 ∷ 0x7fc00000 ∷ 0x7fc00000 ∷ 0x7fc00000 ∷ []
-unfolding cosOf absOf signOf signed reducedOf quartersOf curveOf waveOf sinNear cosNear boundedOf neg add sub mul rem lt le toUnsigned ofInt ofBits toBits
+unfolding cosOf absOf signOf signed reducedOf withinOf quartersOf curveOf waveOf sinNear cosNear boundedOf neg add sub mul rem lt le toUnsigned ofInt ofBits toBits
 cos-values = refl
 
 abbrev sines : List ℕ

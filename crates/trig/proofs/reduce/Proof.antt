@@ -8,20 +8,15 @@ returns : tie.Need-returns
 unfolding reducedOf
 returns c = rw (c .if1 .taken)
 
+within-requires : tie.Need-within-requires
+within-requires c κs = search needs
+
 quarters-requires : tie.Need-quarters-requires
 quarters-requires c κs = search needs
 
 returns-2 : tie.Need-returns-2
 unfolding reducedOf
-returns-2 c = rw (c .before .before .if1 .left, c .before .if2 .taken, c .quarters .ensures)
-
-quarters-requires-2 : tie.Need-quarters-requires-2
-quarters-requires-2 c κs = search needs
-
-returns-3 : tie.Need-returns-3
-unfolding reducedOf
-returns-3 c = rw (c .before .before .if1 .left, c .before .if2 .left, c .quarters2 .ensures)
+returns-2 c = rw (c .before .before .if1 .left, c .quarters .ensures, c .before .within .ensures)
 
 pub reduce-spec : {M : Type 1} → statement M
-reduce-spec =
-    tie.close (tie.spec returns quarters-requires returns-2 quarters-requires-2 returns-3)
+reduce-spec = tie.close (tie.spec returns within-requires quarters-requires returns-2)
