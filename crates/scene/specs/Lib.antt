@@ -1,0 +1,4 @@
+pub mod Words
+pub mod Tags
+pub mod Unique
+pub mod Examples
