@@ -5,7 +5,7 @@ use mathlib.Core.List.{List, [], _∷_, _++_, append-assoc}
 use native.Mathlib.Nat.{mul-le-mul}
 use native.Mathlib.Numerals.{add-one}
 use native.Mathlib.Omega.{arith}
-use lib.ListN.{length, getD, set, take, drop, length-append, length-drop}
+use lib.ListN.{length, getD, set, drop, length-append, length-drop}
 use lib.Seq.{sets, sets-eq, take-at, drop-append-add, drop-drop, getD-drop}
 use Rattle.scene.specs.Tags.{less, wordSums, plus, sumsBelow, sumsBefore, prefixes, fourWords, told, scanOf, filled}
 use Rattle.scene.specs.declared.tags.PathMonoid.{PathMonoid}

@@ -1,26 +1,42 @@
--- Worked examples, by computation.
-use Prim.Native.Nat.{ℕ}
+-- Worked examples, which antt computes from the definitions. Floats by their bits. Assumes nothing.
+use Prim.Native.Nat.{ℕ, _+_}
 use mathlib.Core.Path.{_≡_, refl}
+use mathlib.Core.Bool.{false}
 use mathlib.Core.List.{List, [], _∷_, _++_, map}
 use lib.ListN.{replicate}
+use lib.Ieee.{binary32, ofBits, ofInt, neg}
+use Rattle.spiral.specs.Util.{newOf}
 use Rattle.scene.specs.Words.{wordAt}
 use Rattle.scene.specs.Tags.{sums, tagSums, plus, byteAt, sumsBelow, wordSums, tagData, prefixAt, withPrefix, tagIn, tagOf, sumsBefore, prefixes, filled, scanOf}
+use Rattle.scene.specs.Reading.{i16Of, i16Point, transformOf}
 use Rattle.scene.specs.declared.tags.TagRead.{TagRead}
 use Rattle.scene.specs.declared.tags.TagRead.the-variants.{Tag}
 
--- a triangle: a transform and a style, two lines and one that ends the subpath, and a path; then its points and its transform
-pub triangle : List ℕ
-triangle =
-    0x01014020 ∷ 0x00001005 ∷ (replicate 62 0
+-- A triangle whose first tag is given: a transform, then a style, two lines, a line that ends the subpath, and a path.
+-- Its points stand at word 0x40, its transform at 0x44.
+abbrev sceneFrom : ℕ → List ℕ
+sceneFrom first =
+    (0x01014000 + first) ∷ 0x00001005 ∷ (replicate 62 0
     ++ 0x00000000 ∷ 0x00000003 ∷ 0x00060000 ∷ 0x00000000 ∷ 0x3f800000 ∷ 0 ∷ 0 ∷ 0x3f800000 ∷ 0 ∷ 0 ∷ 0 ∷ 0 ∷ [])
 
-abbrev tag : ℕ → TagRead
-tag ix = tagOf triangle 0 (scanOf triangle 0 (replicate 4096 0) .words) ix
+-- the tag at an index, with the prefixes of a fresh scan
+abbrev tag : ℕ → ℕ → TagRead
+tag first ix = tagOf (sceneFrom first) 0 (scanOf (sceneFrom first) 0 (replicate 4096 0) .words) ix
 
-abbrev at : ℕ → ℕ → TagRead
-at byte offset = Tag (record { «tag_byte» = byte; monoid = sums 0 0 0 offset })
+abbrev read : ℕ → ℕ → ℕ → TagRead
+read byte transform offset = Tag (record { «tag_byte» = byte; monoid = sums 0 transform 0 offset })
 
 -- the data offsets of the three lines are 0, 1 and 2
-pub triangle-tags : map tag (2 ∷ 3 ∷ 4 ∷ []) ≡ at 0x01 0 ∷ at 0x01 1 ∷ at 0x05 2 ∷ []
-unfolding triangle wordAt tagSums plus byteAt sumsBelow wordSums tagData prefixAt withPrefix tagIn tagOf sumsBefore prefixes filled scanOf
+pub triangle-tags : map (tag 0x20) (2 ∷ 3 ∷ 4 ∷ []) ≡ read 0x01 0 0 ∷ read 0x01 0 1 ∷ read 0x05 0 2 ∷ []
+unfolding wordAt tagSums plus byteAt sumsBelow wordSums tagData prefixAt withPrefix tagIn tagOf sumsBefore prefixes filled scanOf
 triangle-tags = refl
+
+-- with no transform before it, a line's transform index lies one below zero, and that transform's address is past 2^32 - 1
+pub no-transform : (tag 0x00 2 ≡ read 0x01 0xffffffff 0) × (transformOf (sceneFrom 0x00) 0x44 0xffffffff .found ≡ false)
+unfolding wordAt tagSums plus byteAt sumsBelow wordSums tagData prefixAt withPrefix tagIn tagOf sumsBefore prefixes filled scanOf transformOf
+no-transform = (refl, refl)
+
+-- -32768 and -1
+pub i16-point : i16Point (0xffff8000 ∷ []) 0 ≡ newOf (ofBits binary32 0xc7000000) (ofBits binary32 0xbf800000)
+unfolding i16Point i16Of ofBits ofInt neg
+i16-point = refl

@@ -1,4 +1,5 @@
 pub mod Words
 pub mod Tags
-pub mod Unique
+pub mod Reading
+pub mod Only
 pub mod Examples

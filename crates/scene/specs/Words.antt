@@ -1,9 +1,9 @@
 -- A read of a lent list of words. Definitions only.
-use Prim.Native.Nat.{ℕ, _+_}
-use mathlib.Core.Bool.{Bool, cond}
+use Prim.Native.Nat.{ℕ}
+use mathlib.Core.Bool.{cond}
 use mathlib.Core.List.{List}
 use lib.ListN.{length, getD}
-use lib.Dec.{leb, ltb}
+use lib.Dec.{ltb}
 use Rattle.scene.specs.declared.words.Word.{Word}
 use Rattle.scene.specs.declared.words.Word.the-variants.{At, Outside}
 

@@ -1,12 +1,9 @@
 -- `scene::tags::scan` meets its contract. After i turns the first i prefixes are filled, the words behind are as lent, and the sums are those of the next prefix.
 -- Assumes nothing.
-use Prim.Native.Nat.{ℕ, _≤_, _-_, _*_, _/_, min}
-use mathlib.Core.Path.{_≡_, refl, ap, sym, _∙_}
-use mathlib.Core.List.{List, _++_}
+use Prim.Native.Nat.{_≤_, _-_}
+use mathlib.Core.Path.{_≡_}
 use native.Mathlib.Omega.{arith}
 use denote.Ref.{now}
-use lib.ListN.{length, drop}
-use Rattle.scene.specs.Tags.{sumsBelow, sumsBefore, prefixes}
 use Rattle.scene.proofs.Laws.{Filling, begin, turn, as-long, past, done}
 use Rattle.scene.proofs.tags.scan.Statement.{statement}
 use Rattle.scene.proofs.tags.scan.Tie as tie

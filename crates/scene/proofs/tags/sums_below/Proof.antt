@@ -1,6 +1,6 @@
 -- `scene::tags::sums_below` meets its contract: so far the sums are those before the place reached. Assumes nothing.
 use Prim.Native.Nat.{_≤_, _-_}
-use mathlib.Core.Path.{_≡_, refl, ap, _∙_}
+use mathlib.Core.Path.{_≡_, refl}
 use native.Mathlib.Numerals.{add-one}
 use native.Mathlib.Omega.{arith}
 use Rattle.scene.specs.Tags.{sumsBelow}
