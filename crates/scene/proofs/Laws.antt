@@ -54,23 +54,24 @@ as-long {scene} {lent} {words} {base} {i} {s} f =
     let r = f .room in
     rw (f .stored, length-append, length-prefixes, length-drop) (omega arith)
 
--- the lent words behind the first i prefixes, where four of them become the next prefix
+behind : (tags lent : List ℕ) (i : ℕ) → drop (i * 4 + 4) (prefixes tags i ++ drop (i * 4) lent) ≡ drop (suc i * 4) lent
+behind tags lent i =
+    let more : i * 4 + 4 ≡ suc i * 4 = omega arith in
+    ap (λ (k : ℕ). drop (k + 4) (prefixes tags i ++ drop (i * 4) lent)) (sym (length-prefixes tags i))
+    ∙ drop-append-add (prefixes tags i) (drop (i * 4) lent) 4
+    ∙ drop-drop 4 (i * 4) lent
+    ∙ ap (λ (k : ℕ). drop k lent) more
+
+-- four of the lent words behind the first i prefixes become the next prefix
 grown : (tags lent : List ℕ) (i : ℕ) → i * 4 + 4 ≤ length lent
     → sets (prefixes tags i ++ drop (i * 4) lent) (i * 4) (fourWords (sumsBefore tags i)) ≡ prefixes tags (suc i) ++ drop (suc i * 4) lent
 unfolding prefixes
 grown tags lent i h =
-    let ps = prefixes tags i in
-    let four = fourWords (sumsBefore tags i) in
-    let len : length ps ≡ i * 4 = length-prefixes tags i in
-    let fits : i * 4 + 4 ≤ length (ps ++ drop (i * 4) lent) = rw (length-append, len, length-drop) (omega arith) in
-    let more : i * 4 + 4 ≡ suc i * 4 = omega arith in
-    let behind : drop (i * 4 + 4) (ps ++ drop (i * 4) lent) ≡ drop (suc i * 4) lent =
-    ap (λ (k : ℕ). drop (k + 4) (ps ++ drop (i * 4) lent)) (sym len)
-    ∙ drop-append-add ps (drop (i * 4) lent) 4
-    ∙ drop-drop 4 (i * 4) lent
-    ∙ ap (λ (k : ℕ). drop k lent) more in
-    sets-eq four (ps ++ drop (i * 4) lent) (i * 4) fits
-    ∙ rw (take-at ps (drop (i * 4) lent) (i * 4) len, behind, append-assoc)
+    let words = prefixes tags i ++ drop (i * 4) lent in
+    let len = length-prefixes tags i in
+    let fits : i * 4 + 4 ≤ length words = rw (length-append, len, length-drop) (omega arith) in
+    sets-eq (fourWords (sumsBefore tags i)) words (i * 4) fits
+    ∙ rw (take-at (prefixes tags i) (drop (i * 4) lent) (i * 4) len, behind tags lent i, append-assoc)
 
 pub turn : {scene lent words words' : List ℕ} {base i : ℕ} {s s' t : PathMonoid}
     → Filling scene base lent words s i → i * 4 + 4 ≤ length lent → words' ≡ sets words (i * 4) (fourWords s)

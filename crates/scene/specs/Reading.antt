@@ -5,7 +5,8 @@ use mathlib.Core.List.{List, [], _∷_}
 use lib.ListN.{length, getD, replicate}
 use lib.Dec.{leb, ltb, eqb}
 use lib.IntN.{pos}
-use lib.Ieee.{Float, binary32, ofBits, ofInt, div, neg}
+use lib.Ieee.{Float, binary32, ofBits, ofInt, neg}
+use Rattle.spiral.specs.Binary32.{_⊘_, whole}
 use Rattle.spiral.specs.Util.{newOf, mixOf}
 use Rattle.spiral.specs.declared.util.Vec2.{Vec2}
 use Rattle.scene.specs.Words.{wordAt}
@@ -46,9 +47,8 @@ pointAt false ws at = i16Point ws at
 
 -- ---- segments, as cubics
 
--- 1 / 3
 abbrev third : Float
-third = div binary32 (ofBits binary32 0x3f800000) (ofBits binary32 0x40400000)
+third = whole 1 ⊘ whole 3
 
 unfoldable pub lineCubic : Vec2 → Vec2 → List Vec2
 lineCubic p0 p1 = p0 ∷ mixOf p0 p1 third ∷ mixOf p1 p0 third ∷ p1 ∷ []
@@ -57,7 +57,7 @@ unfoldable pub quadCubic : Vec2 → Vec2 → Vec2 → List Vec2
 quadCubic p0 p1 p2 = p0 ∷ mixOf p1 p0 third ∷ mixOf p1 p2 third ∷ p2 ∷ []
 
 abbrev pub origin : Vec2
-origin = newOf (ofBits binary32 0) (ofBits binary32 0)
+origin = newOf (whole 0) (whole 0)
 
 -- a quad that ends a stroked subpath only marks where its caps go: the line between its last two points
 abbrev pub marker : ℕ → Bool → Bool
@@ -99,7 +99,7 @@ unfoldable pub transformOf : List ℕ → ℕ → ℕ → TransformRead
 transformOf scene base ix =
     cond (ltb (base + ix * 6) (2 ^ 32) && leb (base + ix * 6 + 6) (length scene))
     (record { found = true; z = floatsAt scene (base + ix * 6) })
-    (record { found = false; z = replicate 6 (ofBits binary32 0) })
+    (record { found = false; z = replicate 6 (whole 0) })
 
 -- the address of a style's flags wraps
 unfoldable pub flagsOf : List ℕ → ℕ → ℕ → Word

@@ -1,6 +1,7 @@
 -- `scene::reading::read_cubic` meets its contract. Assumes nothing.
 use mathlib.Core.Path.{_≡_}
 use native.Mathlib.Omega.{arith}
+use lib.Ieee.{ofBits, round}
 use Rattle.scene.specs.Reading.{pointCount, raised, cubicOf}
 use Rattle.scene.proofs.Points.{room}
 use Rattle.scene.proofs.reading.read_cubic.Statement.{statement}
@@ -15,7 +16,7 @@ unfolding pointCount
 read-point-requires-2 c κs = (omega arith, room (c .before .before .args .kind) 1 _ _ _ (omega arith) (c .before .before .pre .1))
 
 returns : tie.Need-returns
-unfolding cubicOf raised
+unfolding cubicOf raised ofBits round
 returns c = rw (c .before .if1 .taken, c .before .before .before .read-point .ensures, c .before .before .read-point2 .ensures, c .new .ensures)
 
 returns-2 : tie.Need-returns-2

@@ -3,6 +3,7 @@ use mathlib.Core.Path.{sym, _∙_}
 use native.Mathlib.Omega.{arith}
 use denote.Ref.{now}
 use borrow.Author.Needs.{needs}
+use lib.Ieee.{ofBits, round}
 use Rattle.scene.specs.Reading.{segmentOf}
 use Rattle.scene.proofs.Points.{inside}
 use Rattle.scene.proofs.reading.read_path_segment.Statement.{statement}
@@ -21,7 +22,7 @@ returns c =
     rw (c .read-cubic .ensures, c .before .is-marker .ensures, ← (r .before .is-wide .ensures), sym (r .in-reach .ensures) ∙ c .before .before .if1 .taken)
 
 returns-2 : tie.Need-returns-2
-unfolding segmentOf
+unfolding segmentOf ofBits round
 returns-2 c =
     let r = c .before .before in
     rw (c .new .ensures, ← (r .before .is-wide .ensures), sym (r .in-reach .ensures) ∙ c .before .if1 .left)
