@@ -1,0 +1,18 @@
+-- `drawing::line::no_join` meets its contract. Assumes nothing.
+use borrow.Author.Needs.{needs}
+use Rattle.drawing.specs.SheetLaws.{stays}
+use Rattle.drawing.proofs.Draw.{other-than-on, join-stops}
+use Rattle.drawing.proofs.line.no_join.Statement.{statement}
+use Rattle.drawing.proofs.line.no_join.Tie as tie
+
+enum-known-ink : tie.Need-enum-known-ink
+enum-known-ink c = search needs
+
+returns : tie.Need-returns
+returns c = λ path ws. stays (other-than-on _ (c .match .keys2))
+
+returns-2 : tie.Need-returns-2
+returns-2 c = λ path ws. join-stops path ws (c .before .ink .given .1)
+
+pub no-join-spec : {M : Type 1} → statement M
+no-join-spec = tie.close (tie.spec enum-known-ink returns returns-2)

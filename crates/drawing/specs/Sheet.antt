@@ -1,0 +1,117 @@
+-- What is drawn is a list of events, in the source's order; how events are stored is one fold over the sheet, `drawAll`. Definitions only.
+use Prim.Native.Nat.{ℕ, _+_, _*_, _/_}
+use mathlib.Core.Path.{_≡_}
+use mathlib.Core.Bool.{Bool, true, false, _||_, _&&_, cond}
+use mathlib.Core.List.{List, [], _∷_}
+use lib.ListN.{length}
+use lib.Seq.{sets}
+use lib.Dec.{ltb}
+use lib.IntN.{ℤ, pos, negsuc}
+use lib.Signed.{ltZ}
+use lib.Ieee.{Float, binary32, toBits, toSigned}
+use Rattle.maths.specs.Numbers.{floorOf, ceilOf}
+use Rattle.spiral.specs.declared.util.Vec2.{Vec2}
+use Rattle.spiral.specs.Util.{hasNan, applyOf}
+use Rattle.drawing.specs.declared.line.IntBbox.{IntBbox}
+use Rattle.drawing.specs.declared.line.Pen.{Pen}
+use Rattle.drawing.specs.declared.line.Drawn.{Drawn}
+use Rattle.drawing.specs.declared.line.Drawn.the-variants.{On, NotNumber, NoRoom, NoJoin}
+
+-- ---- events
+
+-- a line between device points; a subdivision count that is NaN; a join where the style names none
+pub data Event : Type 0 where
+  line : Vec2 → Vec2 → Event
+  noCount noJoin : Event
+
+-- a line between local points, in device space
+abbrev pub lineThrough : List Float → Vec2 → Vec2 → Event
+lineThrough z p q = line (applyOf z p) (applyOf z q)
+
+-- ---- the box
+
+unfoldable pub lowerOf : ℤ → ℤ → ℤ
+lowerOf a b = cond (ltZ b a) b a
+
+unfoldable pub higherOf : ℤ → ℤ → ℤ
+higherOf a b = cond (ltZ a b) b a
+
+unfoldable pub emptyBox : IntBbox
+emptyBox = record { x0 = pos 2147483647; y0 = pos 2147483647; x1 = negsuc 2147483647; y1 = negsuc 2147483647 }
+
+-- a box that takes a point in: the floors and the ceilings of its coordinates, as i32
+unfoldable pub boxWith : IntBbox → Vec2 → IntBbox
+boxWith b p =
+    record {
+      x0 = lowerOf (b .x0) (toSigned 31 (floorOf (p .x)));
+      y0 = lowerOf (b .y0) (toSigned 31 (floorOf (p .y)));
+      x1 = higherOf (b .x1) (toSigned 31 (ceilOf (p .x)));
+      y1 = higherOf (b .y1) (toSigned 31 (ceilOf (p .y)));
+    }
+
+-- ---- the sheet
+
+-- the lent words, and the answer so far
+pub record Sheet : Type 0 where
+  pub words : List ℕ
+  pub drawn : Drawn
+
+abbrev pub sheet : List ℕ → Drawn → Sheet
+sheet ws d = record { words = ws; drawn = d }
+
+-- the six words of a line
+abbrev pub recordOf : ℕ → Vec2 → Vec2 → List ℕ
+recordOf path p q = path ∷ 0 ∷ toBits binary32 (p .x) ∷ toBits binary32 (p .y) ∷ toBits binary32 (q .x) ∷ toBits binary32 (q .y) ∷ []
+
+-- one more line has room, and does not make the count 4,294,967,296
+unfoldable pub hasRoom : List ℕ → ℕ → Bool
+hasRoom ws n = ltb n 4294967295 && ltb n (length ws / 6)
+
+-- a line at the pen: whether it has a NaN, then whether it has room
+unfoldable pub stored : Bool → Bool → ℕ → List ℕ → Pen → Vec2 → Vec2 → Sheet
+stored true room path ws pen p q = sheet ws (NotNumber (pen .count))
+stored false false path ws pen p q = sheet ws (NoRoom (pen .count))
+stored false true path ws pen p q =
+    sheet (sets ws (pen .count * 6) (recordOf path p q)) (On (record { count = pen .count + 1; bbox = boxWith (boxWith (pen .bbox) p) q }))
+
+unfoldable pub drawOn : ℕ → List ℕ → Pen → Event → Sheet
+drawOn path ws pen (line p q) = stored (hasNan p || hasNan q) (hasRoom ws (pen .count)) path ws pen p q
+drawOn path ws pen noCount = sheet ws (NotNumber (pen .count))
+drawOn path ws pen noJoin = sheet ws (NoJoin (pen .count))
+
+-- one event; a stopped sheet takes no more
+unfoldable pub draw : ℕ → List ℕ → Drawn → Event → Sheet
+draw path ws (On pen) e = drawOn path ws pen e
+draw path ws (NotNumber n) e = sheet ws (NotNumber n)
+draw path ws (NoRoom n) e = sheet ws (NoRoom n)
+draw path ws (NoJoin n) e = sheet ws (NoJoin n)
+
+unfoldable pub drawAll : ℕ → Sheet → List Event → Sheet
+drawAll path s [] = s
+drawAll path s (e ∷ es) = drawAll path (draw path (s .words) (s .drawn) e) es
+
+-- ---- what an answer says
+
+-- the number of the refusal, 0 where there is none
+abbrev pub numberOf : Drawn → ℕ
+numberOf (On pen) = 0
+numberOf (NotNumber n) = 5
+numberOf (NoRoom n) = 6
+numberOf (NoJoin n) = 7
+
+-- how many lines are stored
+abbrev pub countOf : Drawn → ℕ
+countOf (On pen) = pen .count
+countOf (NotNumber n) = n
+countOf (NoRoom n) = n
+countOf (NoJoin n) = n
+
+unfoldable pub isStopped : Drawn → Bool
+isStopped (On pen) = false
+isStopped (NotNumber n) = true
+isStopped (NoRoom n) = true
+isStopped (NoJoin n) = true
+
+-- ---- the contract of every function that draws: on a path, with the words and the answer before, the events leave the words and the answer after
+pub record Drew (path : ℕ) (before : List ℕ) (ink : Drawn) (es : List Event) (after : List ℕ) (r : Drawn) : Type 0 where
+  pub is : sheet after r ≡ drawAll path (sheet before ink) es

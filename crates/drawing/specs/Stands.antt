@@ -1,0 +1,111 @@
+-- What a drawing leaves in the lent words: the lines stored before stand, the records of its first lines follow, as many as the count has grown by, and every word behind them is as it was. Assumes nothing.
+use Prim.Native.Nat.{ℕ, zero, suc, _+_, _*_, _/_, _<_, _≤_}
+use mathlib.Core.Path.{_≡_, refl, ap, sym, _∙_, subst}
+use mathlib.Core.Bool.{Bool, true, false, _||_, _&&_}
+use mathlib.Core.List.{List, [], _∷_, _++_, append-nil, append-assoc}
+use native.Mathlib.Omega.{arith}
+use lib.Dec.{ltb}
+use borrow.Author.Tests.{ltb-true}
+use lib.ListN.{length, take, drop, length-append, take-append-drop}
+use lib.Seq.{sets, sets-eq, take-at, drop-at, drop-drop, length-take-le}
+use Rattle.spiral.specs.declared.util.Vec2.{Vec2}
+use Rattle.spiral.specs.Util.{hasNan}
+use Rattle.drawing.specs.Sheet.{Event, line, noCount, noJoin, boxWith, Sheet, sheet, recordOf, hasRoom, stored, drawOn, draw, drawAll, countOf, isStopped}
+use Rattle.drawing.specs.SheetLaws.{absorbs}
+use Rattle.drawing.specs.declared.line.Pen.{Pen}
+use Rattle.drawing.specs.declared.line.Drawn.{Drawn}
+use Rattle.drawing.specs.declared.line.Drawn.the-variants.{On, NotNumber, NoRoom, NoJoin}
+
+-- the words of the first k events, where these are lines
+unfoldable pub recordsOf : ℕ → ℕ → List Event → List ℕ
+recordsOf path zero es = []
+recordsOf path (suc k) [] = []
+recordsOf path (suc k) (line p q ∷ es) = recordOf path p q ++ recordsOf path k es
+recordsOf path (suc k) (noCount ∷ es) = []
+recordsOf path (suc k) (noJoin ∷ es) = []
+
+pub record Stands (path : ℕ) (es : List Event) (ws : List ℕ) (n : ℕ) (ws' : List ℕ) (n' : ℕ) : Type 0 where
+  pub more : ℕ
+  pub count : n' ≡ n + more
+  pub whole : length (recordsOf path more es) ≡ more * 6
+  pub words : ws' ≡ take (n * 6) ws ++ recordsOf path more es ++ drop (n' * 6) ws
+
+-- ---- nothing is stored
+none : (path : ℕ) (es : List Event) (ws : List ℕ) (n : ℕ) → Stands path es ws n ws n
+unfolding recordsOf
+none path es ws n =
+    record {
+      more = 0;
+      count = omega arith;
+      whole = refl;
+      words = sym (ap (λ (r : List ℕ). r ++ drop (n * 6) ws) (append-nil (take (n * 6) ws)) ∙ take-append-drop (n * 6) ws);
+    }
+
+-- ---- one line is stored, and then others
+room-for : (a b : Bool) → a && b ≡ true → b ≡ true
+room-for true b h = h
+room-for false b h = let z : _≡_ {A = ℕ} 0 1 = cc in absurd (omega arith)
+
+fits-in : (ws : List ℕ) (n : ℕ) → hasRoom ws n ≡ true → n * 6 + 6 ≤ length ws
+unfolding hasRoom
+fits-in ws n h =
+    let r : n < length ws / 6 = ltb-true n (length ws / 6) (room-for (ltb n 4294967295) (ltb n (length ws / 6)) h) in
+    omega arith
+
+module _ (path : ℕ) (p q : Vec2) (es : List Event) (ws : List ℕ) (n : ℕ) (room : n * 6 + 6 ≤ length ws) where
+  head : length (take (n * 6) ws ++ recordOf path p q) ≡ n * 6 + 6
+  head = length-append (take (n * 6) ws) (recordOf path p q) ∙ ap (λ (k : ℕ). k + 6) (length-take-le (n * 6) ws (omega arith))
+
+  after : sets ws (n * 6) (recordOf path p q) ≡ (take (n * 6) ws ++ recordOf path p q) ++ drop (n * 6 + 6) ws
+  after = sets-eq (recordOf path p q) ws (n * 6) room
+
+  front : take ((n + 1) * 6) (sets ws (n * 6) (recordOf path p q)) ≡ take (n * 6) ws ++ recordOf path p q
+  front = ap (take ((n + 1) * 6)) after ∙ take-at (take (n * 6) ws ++ recordOf path p q) (drop (n * 6 + 6) ws) ((n + 1) * 6) (head ∙ ends)
+    where
+      ends : n * 6 + 6 ≡ (n + 1) * 6
+      ends = omega arith
+
+  behind : (k : ℕ) → drop (n * 6 + 6 + k) (sets ws (n * 6) (recordOf path p q)) ≡ drop (n * 6 + 6 + k) ws
+  behind k =
+      sym (drop-drop k (n * 6 + 6) (sets ws (n * 6) (recordOf path p q)))
+      ∙ ap (drop k) (ap (drop (n * 6 + 6)) after ∙ drop-at (take (n * 6) ws ++ recordOf path p q) (drop (n * 6 + 6) ws) (n * 6 + 6) head)
+      ∙ drop-drop k (n * 6 + 6) ws
+
+  one-more : {ws' : List ℕ} {n' : ℕ} → Stands path es (sets ws (n * 6) (recordOf path p q)) (n + 1) ws' n' → Stands path (line p q ∷ es) ws n ws' n'
+  unfolding recordsOf
+  one-more {ws'} {n'} s =
+      let r = recordsOf path (s .more) es in
+      let e : n' * 6 ≡ n * 6 + 6 + s .more * 6 = omega (arith, s .count) in
+      record {
+        more = suc (s .more);
+        count = omega (arith, s .count);
+        whole = omega (arith, s .whole);
+        words =
+            s .words
+            ∙ ap (λ (x : List ℕ). x ++ r ++ drop (n' * 6) (sets ws (n * 6) (recordOf path p q))) front
+            ∙ ap (λ (x : List ℕ). take (n * 6) ws ++ recordOf path p q ++ r ++ x) (rw e (behind (s .more * 6)))
+            ∙ ap (λ (x : List ℕ). x ++ drop (n' * 6) ws) (append-assoc (take (n * 6) ws) (recordOf path p q) r);
+      }
+
+-- ---- every drawing
+abbrev Leaves : ℕ → List Event → List ℕ → ℕ → Sheet → Type 0
+Leaves path es ws n s = Stands path es ws n (s .words) (countOf (s .drawn))
+
+stop-leaves : (path : ℕ) (e : Event) (es : List Event) (ws : List ℕ) (d : Drawn) → isStopped d ≡ true → Leaves path (e ∷ es) ws (countOf d) (drawAll path (sheet ws d) es)
+stop-leaves path e es ws d h = subst (Leaves path (e ∷ es) ws (countOf d)) (absorbs path ws d es h) (none path (e ∷ es) ws (countOf d))
+
+line-leaves : (path : ℕ) (p q : Vec2) (es : List Event) (ws : List ℕ) (pen : Pen) (t u : Bool) → hasRoom ws (pen .count) ≡ u → ((ws : List ℕ) (d : Drawn) → Leaves path es ws (countOf d) (drawAll path (sheet ws d) es)) → Leaves path (line p q ∷ es) ws (pen .count) (drawAll path (stored t u path ws pen p q) es)
+unfolding stored isStopped
+line-leaves path p q es ws pen true u h rest = stop-leaves path (line p q) es ws (NotNumber (pen .count)) refl
+line-leaves path p q es ws pen false false h rest = stop-leaves path (line p q) es ws (NoRoom (pen .count)) refl
+line-leaves path p q es ws pen false true h rest = one-more path p q es ws (pen .count) (fits-in ws (pen .count) h) (rest (sets ws (pen .count * 6) (recordOf path p q)) (On (record { count = pen .count + 1; bbox = boxWith (boxWith (pen .bbox) p) q })))
+
+pub stands : (path : ℕ) (es : List Event) (ws : List ℕ) (d : Drawn) → Stands path es ws (countOf d) ((drawAll path (sheet ws d) es) .words) (countOf ((drawAll path (sheet ws d) es) .drawn))
+unfolding drawAll draw drawOn isStopped
+stands path [] ws d = none path [] ws (countOf d)
+stands path (line p q ∷ es) ws (On pen) = line-leaves path p q es ws pen (hasNan p || hasNan q) (hasRoom ws (pen .count)) refl (stands path es)
+stands path (noCount ∷ es) ws (On pen) = stop-leaves path noCount es ws (NotNumber (pen .count)) refl
+stands path (noJoin ∷ es) ws (On pen) = stop-leaves path noJoin es ws (NoJoin (pen .count)) refl
+stands path (e ∷ es) ws (NotNumber n) = stop-leaves path e es ws (NotNumber n) refl
+stands path (e ∷ es) ws (NoRoom n) = stop-leaves path e es ws (NoRoom n) refl
+stands path (e ∷ es) ws (NoJoin n) = stop-leaves path e es ws (NoJoin n) refl

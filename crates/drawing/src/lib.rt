@@ -1,0 +1,2 @@
+// What the source draws: lines, arcs, caps and joins, stored in the lent words.
+pub mod line;

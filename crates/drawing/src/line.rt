@@ -1,0 +1,169 @@
+// A line is stored as six words behind those stored before, until one is refused.
+ghost use mathlib.Core.Path.{_≡_};
+ghost use mathlib.Core.List.{List, [], _∷_};
+ghost use Prim.Native.Nat.{ℕ, _+_, _<_};
+ghost use lib.ListN.{length};
+ghost use lib.Seq.{sets};
+ghost use Rattle.drawing.specs.Sheet.{lowerOf, higherOf, emptyBox, boxWith, recordOf, line, noCount, noJoin, isStopped, lineThrough, Drew};
+use spiral::util::Vec2;
+use spiral::util::apply;
+
+pub struct IntBbox {
+    pub x0: i32,
+    pub y0: i32,
+    pub x1: i32,
+    pub y1: i32,
+}
+
+// How many lines are stored, and the box of those of the tag in turn.
+pub struct Pen {
+    pub count: u32,
+    pub bbox: IntBbox,
+}
+
+// The answer so far. A stop holds how many whole lines are stored.
+pub enum Drawn {
+    On(Pen),
+    NotNumber(u32),
+    NoRoom(u32),
+    NoJoin(u32),
+}
+
+fn lower(a: i32, b: i32) -> i32
+    ensures { λ r. ⌜ r ≡ lowerOf a b ⌝ }
+{
+    if b < a { b } else { a }
+}
+
+fn higher(a: i32, b: i32) -> i32
+    ensures { λ r. ⌜ r ≡ higherOf a b ⌝ }
+{
+    if a < b { b } else { a }
+}
+
+impl IntBbox {
+    // The box of no point.
+    pub fn empty() -> IntBbox
+        ensures { λ r. ⌜ r ≡ emptyBox ⌝ }
+    {
+        IntBbox {
+            x0: 2147483647,
+            y0: 2147483647,
+            x1: -2147483648,
+            y1: -2147483648,
+        }
+    }
+
+    pub fn add_pt(self, pt: Vec2) -> IntBbox
+        ensures { λ r. ⌜ r ≡ boxWith self pt ⌝ }
+    {
+        let x0 = lower(self.x0, maths::to_i32(maths::floor(pt.x)));
+        let y0 = lower(self.y0, maths::to_i32(maths::floor(pt.y)));
+        let x1 = higher(self.x1, maths::to_i32(maths::ceil(pt.x)));
+        let y1 = higher(self.y1, maths::to_i32(maths::ceil(pt.y)));
+        IntBbox { x0, y0, x1, y1 }
+    }
+}
+
+fn put(lines: &mut [u32], at: usize, path: u32, p0: Vec2, p1: Vec2)
+    requires { ⌜ at + 5 < length (now lines) ⌝ }
+    ensures { λ r. ⌜ now (lines .exit) ≡ sets (now (lines .entry)) at (recordOf path p0 p1) ⌝ }
+{
+    let x0 = maths::word_of(p0.x);
+    let y0 = maths::word_of(p0.y);
+    let x1 = maths::word_of(p1.x);
+    let y1 = maths::word_of(p1.y);
+    lines[at] = path;
+    lines[at + 1] = 0;
+    lines[at + 2] = x0;
+    lines[at + 3] = y0;
+    lines[at + 4] = x1;
+    lines[at + 5] = y1;
+}
+
+// Takes device points. Only this function looks at what came before.
+pub fn write_line(lines: &mut [u32], ink: Drawn, path: u32, p0: Vec2, p1: Vec2) -> Drawn
+    ensures { λ r. ⌜ Drew path (now (lines .entry)) ink (line p0 p1 ∷ []) (now (lines .exit)) r ⌝ }
+{
+    let Drawn::On(pen) = ink else {
+        return ink;
+    };
+    let count = pen.count;
+    if p0.is_nan() {
+        return Drawn::NotNumber(count);
+    }
+    if p1.is_nan() {
+        return Drawn::NotNumber(count);
+    }
+    if count >= 4294967295 {
+        return Drawn::NoRoom(count);
+    }
+    let at = count as usize;
+    if at < lines.len() / 6 {
+        put(lines, at * 6, path, p0, p1);
+        let b = pen.bbox;
+        let bbox = b.add_pt(p0).add_pt(p1);
+        Drawn::On(Pen {
+            count: count + 1,
+            bbox,
+        })
+    } else {
+        Drawn::NoRoom(count)
+    }
+}
+
+pub fn output_line_with_transform(
+    lines: &mut [u32],
+    ink: Drawn,
+    path: u32,
+    p0: Vec2,
+    p1: Vec2,
+    transform: [f32; 6],
+) -> Drawn
+    ensures { λ r. ⌜ Drew path (now (lines .entry)) ink (lineThrough transform p0 p1 ∷ []) (now (lines .exit)) r ⌝ }
+{
+    write_line(lines, ink, path, apply(transform, p0), apply(transform, p1))
+}
+
+pub fn output_two_lines_with_transform(
+    lines: &mut [u32],
+    ink: Drawn,
+    path: u32,
+    p00: Vec2,
+    p01: Vec2,
+    p10: Vec2,
+    p11: Vec2,
+    transform: [f32; 6],
+) -> Drawn
+    ensures { λ r. ⌜ Drew path (now (lines .entry)) ink (lineThrough transform p00 p01 ∷ lineThrough transform p10 p11 ∷ []) (now (lines .exit)) r ⌝ }
+{
+    let first = output_line_with_transform(lines, ink, path, p00, p01, transform);
+    output_line_with_transform(lines, first, path, p10, p11, transform)
+}
+
+// Where a subdivision count is not a number.
+pub fn no_count(ink: Drawn) -> Drawn
+    ensures { λ r. ⌜ ((path : ℕ) (ws : List ℕ) → Drew path ws ink (noCount ∷ []) ws r) ⌝ }
+{
+    let Drawn::On(pen) = ink else {
+        return ink;
+    };
+    Drawn::NotNumber(pen.count)
+}
+
+// Where the style names no join.
+pub fn no_join(ink: Drawn) -> Drawn
+    ensures { λ r. ⌜ ((path : ℕ) (ws : List ℕ) → Drew path ws ink (noJoin ∷ []) ws r) ⌝ }
+{
+    let Drawn::On(pen) = ink else {
+        return ink;
+    };
+    Drawn::NoJoin(pen.count)
+}
+
+// For loops, which end at a stop.
+pub fn stopped(ink: Drawn) -> bool
+    ensures { λ r. ⌜ r ≡ isStopped ink ⌝ }
+{
+    if let Drawn::On(_) = ink { false } else { true }
+}
