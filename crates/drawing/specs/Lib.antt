@@ -1,3 +1,4 @@
 pub mod Sheet
 pub mod SheetLaws
 pub mod Stands
+pub mod Cubic
