@@ -1,32 +1,22 @@
 -- Points, derivatives and tangents of a cubic. Definitions only.
 use mathlib.Core.Bool.{Bool, cond}
 use lib.Ieee.{Float, lt}
-use Rattle.spiral.specs.Binary32.{_⊖_, _⊗_, f32}
+use Rattle.spiral.specs.Binary32.{_⊖_, _⊗_, whole}
 use Rattle.spiral.specs.declared.util.Vec2.{Vec2}
 use Rattle.spiral.specs.Util.{robustEpsilon, addOf, subOf, mulOf, lengthSquaredOf}
 use Rattle.drawing.specs.declared.cubic.CubicAt.{CubicAt}
 
--- 1, 2 and 3
-abbrev one : Float
-one = f32 0x3f800000
-
-abbrev two : Float
-two = f32 0x40000000
-
-abbrev three : Float
-three = f32 0x40400000
-
 unfoldable pub cubicPoint : Vec2 → Vec2 → Vec2 → Vec2 → Float → Vec2
 cubicPoint p0 p1 p2 p3 t =
-    let m = one ⊖ t in
+    let m = whole 1 ⊖ t in
     addOf (mulOf p0 (m ⊗ m ⊗ m))
-    (mulOf (addOf (addOf (mulOf p1 (three ⊗ (m ⊗ m))) (mulOf p2 (three ⊗ (m ⊗ t)))) (mulOf p3 (t ⊗ t))) t)
+    (mulOf (addOf (addOf (mulOf p1 (whole 3 ⊗ (m ⊗ m))) (mulOf p2 (whole 3 ⊗ (m ⊗ t)))) (mulOf p3 (t ⊗ t))) t)
 
 -- a third of the derivative, as the source has it
 unfoldable pub cubicDeriv : Vec2 → Vec2 → Vec2 → Vec2 → Float → Vec2
 cubicDeriv p0 p1 p2 p3 t =
-    let m = one ⊖ t in
-    addOf (addOf (mulOf (subOf p1 p0) (m ⊗ m)) (mulOf (subOf p2 p1) (two ⊗ (m ⊗ t)))) (mulOf (subOf p3 p2) (t ⊗ t))
+    let m = whole 1 ⊖ t in
+    addOf (addOf (mulOf (subOf p1 p0) (m ⊗ m)) (mulOf (subOf p2 p1) (whole 2 ⊗ (m ⊗ t)))) (mulOf (subOf p3 p2) (t ⊗ t))
 
 unfoldable pub cubicAt : Vec2 → Vec2 → Vec2 → Vec2 → Float → CubicAt
 cubicAt p0 p1 p2 p3 t = record { p = cubicPoint p0 p1 p2 p3 t; q = cubicDeriv p0 p1 p2 p3 t }

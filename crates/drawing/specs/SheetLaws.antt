@@ -6,17 +6,12 @@ use mathlib.Core.List.{List, [], _∷_, _++_}
 use native.Mathlib.Omega.{arith}
 use lib.ListN.{length}
 use lib.Seq.{length-sets}
-use Rattle.laws.specs.Only.{Only}
 use Rattle.spiral.specs.declared.util.Vec2.{Vec2}
 use Rattle.spiral.specs.Util.{hasNan}
 use Rattle.drawing.specs.Sheet.{Event, line, noCount, noJoin, Sheet, sheet, recordOf, hasRoom, stored, drawOn, draw, drawAll, isStopped, Drew}
 use Rattle.drawing.specs.declared.line.Pen.{Pen}
 use Rattle.drawing.specs.declared.line.Drawn.{Drawn}
 use Rattle.drawing.specs.declared.line.Drawn.the-variants.{On, NotNumber, NoRoom, NoJoin}
-
--- no second answer, and no other words at the end, satisfy a contract
-pub drew-only : (path : ℕ) (ws : List ℕ) (d : Drawn) (es : List Event) → Only (λ (s : Sheet). Drew path ws d es (s .words) (s .drawn))
-drew-only path ws d es r s h k = h .is ∙ sym (k .is)
 
 -- ---- a stopped sheet
 pub absorbs : (path : ℕ) (ws : List ℕ) (d : Drawn) (es : List Event) → isStopped d ≡ true → sheet ws d ≡ drawAll path (sheet ws d) es

@@ -89,11 +89,12 @@ pub fn write_line(lines: &mut [u32], ink: Drawn, path: u32, p0: Vec2, p1: Vec2) 
         return ink;
     };
     let count = pen.count;
+    let not_number = Drawn::NotNumber(count);
     if p0.is_nan() {
-        return Drawn::NotNumber(count);
+        return not_number;
     }
     if p1.is_nan() {
-        return Drawn::NotNumber(count);
+        return not_number;
     }
     if count >= 4294967295 {
         return Drawn::NoRoom(count);

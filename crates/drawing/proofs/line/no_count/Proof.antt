@@ -5,9 +5,6 @@ use Rattle.drawing.proofs.Draw.{other-than-on, count-stops}
 use Rattle.drawing.proofs.line.no_count.Statement.{statement}
 use Rattle.drawing.proofs.line.no_count.Tie as tie
 
-enum-known-ink : tie.Need-enum-known-ink
-enum-known-ink c = search needs
-
 returns : tie.Need-returns
 returns c = λ path ws. stays (other-than-on _ (c .match .keys2))
 
@@ -15,4 +12,4 @@ returns-2 : tie.Need-returns-2
 returns-2 c = λ path ws. count-stops path ws (c .before .ink .given .1)
 
 pub no-count-spec : {M : Type 1} → statement M
-no-count-spec = tie.close (tie.spec enum-known-ink returns returns-2)
+no-count-spec = tie.close (tie.spec (λ c. search needs) returns returns-2)

@@ -5,9 +5,6 @@ use Rattle.drawing.proofs.Draw.{is-on, other-than-on}
 use Rattle.drawing.proofs.line.stopped.Statement.{statement}
 use Rattle.drawing.proofs.line.stopped.Tie as tie
 
-enum-told : tie.Need-enum-told
-enum-told c = search needs
-
 returns : tie.Need-returns
 returns c = sym (is-on _ (c .before .match .keys1))
 
@@ -15,4 +12,4 @@ returns-2 : tie.Need-returns-2
 returns-2 c = sym (other-than-on _ (c .match .keys2))
 
 pub stopped-spec : {M : Type 1} → statement M
-stopped-spec = tie.close (tie.spec enum-told returns returns-2)
+stopped-spec = tie.close (tie.spec (λ c. search needs) returns returns-2)

@@ -12,9 +12,6 @@ use Rattle.drawing.proofs.Draw.{other-than-on, nan-first, nan-second, f
 use Rattle.drawing.proofs.line.write_line.Statement.{statement}
 use Rattle.drawing.proofs.line.write_line.Tie as tie
 
-enum-known-ink : tie.Need-enum-known-ink
-enum-known-ink c = search needs
-
 returns : tie.Need-returns
 returns c = stays (other-than-on _ (c .match .keys2))
 
@@ -39,21 +36,6 @@ returns-4 c =
     let k = e .before .before .before .before .before in
     full (k .ink .given .1) (first (e .before .before)) (second e) (last-count (now (k .before .before .before .args .lines)) _ (c .if3 .taken))
 
-cast-at : tie.Need-cast-at
-cast-at c = search needs
-
-mul-put : tie.Need-mul-put
-mul-put c = search needs
-
-put-requires : tie.Need-put-requires
-put-requires c κs = omega arith
-
-add-t22 : tie.Need-add-t22
-add-t22 c = search needs
-
-same-length : tie.Need-same-length
-same-length c = search needs
-
 returns-5 : tie.Need-returns-5
 returns-5 c =
     let p = c .before .before .before .before .before in
@@ -72,4 +54,4 @@ returns-6 c =
     full (k .ink .given .1) (first (e .before .before)) (second e) (no-room (now (k .before .before .before .args .lines)) _ (c .if4 .left))
 
 pub write-line-spec : {M : Type 1} → statement M
-write-line-spec = tie.close (tie.spec enum-known-ink returns (λ c κs. tt) returns-2 (λ c κs. tt) returns-3 returns-4 cast-at mul-put put-requires (λ c κs. tt) (λ c κs. tt) add-t22 same-length returns-5 returns-6)
+write-line-spec = tie.close (tie.spec (λ c. search needs) returns (λ c κs. tt) returns-2 (λ c κs. tt) returns-3 returns-4 (λ c. search needs) (λ c. search needs) (λ c κs. omega arith) (λ c κs. tt) (λ c κs. tt) (λ c. search needs) (λ c. search needs) returns-5 returns-6)
