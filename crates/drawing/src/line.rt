@@ -81,7 +81,8 @@ fn put(lines: &mut [u32], at: usize, path: u32, p0: Vec2, p1: Vec2)
     lines[at + 5] = y1;
 }
 
-// Takes device points. Only this function looks at what came before.
+// Takes device points. A NaN is refused before room is looked for. The functions that draw with this
+// one hand the answer on unseen: after a stop nothing more is stored.
 pub fn write_line(lines: &mut [u32], ink: Drawn, path: u32, p0: Vec2, p1: Vec2) -> Drawn
     ensures { λ r. ⌜ Drew path (now (lines .entry)) ink (line p0 p1 ∷ []) (now (lines .exit)) r ⌝ }
 {
@@ -96,6 +97,7 @@ pub fn write_line(lines: &mut [u32], ink: Drawn, path: u32, p0: Vec2, p1: Vec2) 
     if p1.is_nan() {
         return not_number;
     }
+    // One more would make the count 2^32.
     if count >= 4294967295 {
         return Drawn::NoRoom(count);
     }
