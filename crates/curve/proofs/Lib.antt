@@ -1,0 +1,4 @@
+pub mod Lines
+pub mod Scale
+pub mod Tree
+pub mod Walk
