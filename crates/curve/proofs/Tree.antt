@@ -10,16 +10,12 @@ use lib.Count.{trailingZeros, under}
 use borrow.Author.Tests.{eq-eqb, ne-eqb, eqb-true, eqb-false}
 use Rattle.drawing.specs.Sheet.{Event}
 use Rattle.curve.specs.Curve.{Front, Trail, onward, tipOf, isNear, accepted, walk}
+use Rattle.curve.specs.Walks.{walk-far, flatten-append}
 use Rattle.curve.specs.declared.Side.{Side}
 
 -- the events of a trail, and then what follows it
 abbrev pub follow : Trail → (Front → List Event) → List Event
 follow t g = flatten (t .ranges) ++ g (t .front)
-
-pub flatten-append : (xs ys : List (List Event)) → flatten (xs ++ ys) ≡ flatten xs ++ flatten ys
-unfolding flatten
-flatten-append [] ys = refl
-flatten-append (x ∷ xs) ys = ap (λ (es : List Event). x ++ es) (flatten-append xs ys) ∙ sym (append-assoc x (flatten xs) (flatten ys))
 
 follow-onward : (a : Trail) (b : Front → Trail) (g : Front → List Event) → follow (onward a b) g ≡ follow a (λ f. follow (b f) g)
 unfolding onward
@@ -64,13 +60,11 @@ module _ (s : Side) where
 
   -- a range that is halved
   pub head-half : (k d u : ℕ) (f : Front) → u < 2 ^ k → isNear s f (tipOf s (suc d) u) ≡ false → head k (suc d) u f ≡ head (suc k) d (u * 2) f
-  unfolding walk
   head-half k d u f h e =
       let z : u * 2 / 2 ≡ u = omega arith in
       let a = walk s d (u * 2) f in
-      let r : walk s (suc d) u f ≡ onward a (walk s d (u * 2 + 1)) = cc in
       head-in k (suc d) u f h
-      ∙ ap (λ (t : Trail). follow t (rest k (suc d) u)) r
+      ∙ ap (λ (t : Trail). follow t (rest k (suc d) u)) (walk-far s d u f e)
       ∙ follow-onward a (walk s d (u * 2 + 1)) (rest k (suc d) u)
       ∙ ap (λ (es : List Event). flatten (a .ranges) ++ es)
       (ap (λ (v : ℕ). follow (walk s d (u * 2 + 1) (a .front)) (rest k (suc d) v)) (sym z)

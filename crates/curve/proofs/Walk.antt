@@ -17,6 +17,7 @@ use Rattle.spiral.specs.declared.euler.CubicParams.{CubicParams}
 use Rattle.drawing.specs.Sheet.{Event}
 use Rattle.curve.specs.Fit.{tipAt, paramsOf, fitOf}
 use Rattle.curve.specs.Curve.{Front, frontOf, Trail, part, tipOf, isNear, rangeOf, rangeEnd, accepted, walk}
+use Rattle.curve.specs.Walks.{walk-near}
 use Rattle.curve.specs.declared.fit.Tip.{Tip}
 use Rattle.curve.specs.declared.fit.Fit.{Fit}
 use Rattle.curve.specs.declared.Side.{Side}
@@ -58,7 +59,7 @@ test s d u f = isNear s f (tipOf s d u) || le (part (2 ^ d)) (part 1)
 walk-accepted : (s : Side) (d u : ℕ) (f : Front) → d ≤ 16 → test s d u f ≡ true → walk s d u f ≡ accepted s f (tipOf s d u)
 unfolding walk
 walk-accepted s zero u f h e = refl
-walk-accepted s (suc d) u f h e = let n : isNear s f (tipOf s (suc d) u) ≡ true = or-left _ _ (above-limit d h) e in cc
+walk-accepted s (suc d) u f h e = walk-near s d u f (or-left _ _ (above-limit d h) e)
 
 can-halve : (s : Side) (d u : ℕ) (f : Front) → test s d u f ≡ false → (x : ℕ) × (d ≡ suc x)
 can-halve s zero u f e = absurd (or-right (isNear s f (tipOf s 0 u)) (le (part 1) (part 1)) at-limit e)

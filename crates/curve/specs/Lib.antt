@@ -1,2 +1,5 @@
 pub mod Fit
 pub mod Curve
+pub mod Walks
+pub mod Chain
+pub mod Bounds
