@@ -3,3 +3,4 @@ pub mod Curve
 pub mod Walks
 pub mod Chain
 pub mod Bounds
+pub mod Only

@@ -1,6 +1,6 @@
 // A cubic, or the curve at an offset from it, as lines: it is cut into ranges that are each near a spiral, and a range
 // is 1 to 100 lines.
-pub mod fit;
+mod fit;
 ghost use mathlib.Core.Path.{_≡_};
 ghost use mathlib.Core.Bool.{_||_};
 ghost use mathlib.Core.List.{[], _∷_, flatten};
@@ -28,7 +28,7 @@ const TOL: f32 = 0.25;
 const SUBDIV_LIMIT: f32 = 1.0 / 65536.0;
 
 // One side of a curve: its control points, how much the transform scales, the transform of each line, and the given ends.
-pub struct Side {
+struct Side {
     pub points: [Vec2; 4],
     pub scale: f32,
     pub transform: [f32; 6],
