@@ -1,10 +1,9 @@
 -- The lines of a range, one by one. Assumes nothing.
 use Prim.Native.Nat.{ℕ, suc, _+_, _-_, _≤_, _<_}
-use mathlib.Core.Path.{_≡_, refl}
-use mathlib.Core.List.{List, [], _∷_, _++_}
+use mathlib.Core.Path.{_≡_}
+use mathlib.Core.List.{[], _∷_, _++_}
 use native.Mathlib.Omega.{arith}
 use Rattle.spiral.specs.declared.util.Vec2.{Vec2}
-use Rattle.drawing.specs.Sheet.{Event}
 use Rattle.curve.specs.Fit.{placeOf}
 use Rattle.curve.specs.Curve.{lineOf, linesOf}
 use Rattle.curve.specs.declared.fit.Fit.{Fit}

@@ -1,8 +1,8 @@
 -- The places of the walk are whole 65536ths, which binary32 holds exactly. Assumes nothing.
 use mathlib.Core.Path.{_≡_, refl, sym, ap, _∙_, subst}
-use mathlib.Core.Bool.{Bool, true, false, _||_}
-use Prim.Native.Nat.{ℕ, zero, suc, _+_, _*_, _/_, _^_, _≤_, _<_}
-use native.Mathlib.Nat.{mul-div-cancel, pow-suc, lt-of-le-of-lt, add-mul, one-mul, mul-one, mul-le-mul-right}
+use mathlib.Core.Bool.{Bool, true, false}
+use Prim.Native.Nat.{ℕ, suc, _+_, _*_, _/_, _^_, _≤_, _<_}
+use native.Mathlib.Nat.{mul-div-cancel, pow-suc, lt-of-le-of-lt, add-mul, one-mul, mul-one}
 use native.Mathlib.Omega.{arith}
 use lib.Dec.{T, lit<, lit≤}
 use lib.IntN.{pos, negsuc}
@@ -11,7 +11,7 @@ use lib.Ieee.{Float, nan, inf, fin, binary32, round, mul, add, eq, le, ofInt, up
 use lib.Ieee.Exact.{HasValue}
 use lib.Ieee.Fits.{down-pos}
 use Rattle.laws.specs.Same.{one}
-use Rattle.laws.specs.Dyadic.{at, of-int, half-is, dy-val, dy-mul, dy-add, dy-le, dy-scale, at-end}
+use Rattle.laws.specs.Dyadic.{of-int, half-is, dy-val, dy-mul, dy-add, dy-le, dy-scale, at-end}
 use Rattle.curve.specs.Curve.{part}
 
 few : {n : ℕ} → n ≤ 65536 → n < 2 ^ 24

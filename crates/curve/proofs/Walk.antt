@@ -1,7 +1,7 @@
 -- A place of the loop, `Here`, and what each way through a turn makes of it. Assumes nothing.
 use mathlib.Core.Path.{_≡_, refl, sym, ap, ap₂, _∙_, subst}
 use mathlib.Core.Bool.{Bool, true, false, _||_}
-use mathlib.Core.List.{List, [], _∷_, _++_, flatten, append-nil}
+use mathlib.Core.List.{List, [], _++_, flatten, append-nil}
 use Prim.Native.Nat.{ℕ, zero, suc, _+_, _-_, _*_, _/_, _%_, _^_, _≤_, _<_}
 use native.Mathlib.Nat.{mul-assoc, mul-comm, mul-le-mul-right, le-of-mul-le-mul-right, eq-of-mul-eq-mul-right, mul-div-cancel, pow-suc, one-mul}
 use native.Mathlib.Omega.{arith}
@@ -16,7 +16,7 @@ use Rattle.spiral.specs.declared.util.Vec2.{Vec2}
 use Rattle.spiral.specs.declared.euler.CubicParams.{CubicParams}
 use Rattle.drawing.specs.Sheet.{Event}
 use Rattle.curve.specs.Fit.{tipAt, paramsOf, fitOf}
-use Rattle.curve.specs.Curve.{Front, frontOf, Trail, part, tipOf, isNear, rangeOf, rangeEnd, accepted, walk}
+use Rattle.curve.specs.Curve.{Front, frontOf, part, tipOf, isNear, rangeOf, rangeEnd, accepted, walk}
 use Rattle.curve.specs.Walks.{walk-near}
 use Rattle.curve.specs.declared.fit.Tip.{Tip}
 use Rattle.curve.specs.declared.fit.Fit.{Fit}

@@ -1,6 +1,6 @@
 -- How much a curve draws: at most 131,071 ranges are looked at and 65,536 accepted, each of 1 to 100 lines, so there are at most 6,553,600. Assumes nothing.
 use Prim.Native.Nat.{ℕ, zero, suc, _+_, _-_, _*_, _/_, _^_, _≤_, _<_, min}
-use mathlib.Core.Path.{_≡_, refl, sym, ap, _∙_, subst}
+use mathlib.Core.Path.{_≡_, refl, ap, _∙_, subst}
 use mathlib.Core.Logic.{inl, inr}
 use mathlib.Core.Bool.{Bool, true, false, not, cond}
 use mathlib.Core.List.{List, [], _∷_, _++_, flatten}
@@ -19,8 +19,8 @@ use Rattle.spiral.specs.Binary32.{whole}
 use Rattle.spiral.specs.declared.util.Vec2.{Vec2}
 use Rattle.drawing.specs.Sheet.{Event, noCount}
 use Rattle.curve.specs.Fit.{fitOf, placeOf}
-use Rattle.curve.specs.Curve.{lineOf, linesOf, rangeOf, Front, Trail, onward, tipOf, isNear, accepted, walk, isPoint, sideEvents, deviceSide, localSide, eulerEvents}
-use Rattle.curve.specs.Walks.{walk-near, walk-far, walks, flatten-append}
+use Rattle.curve.specs.Curve.{linesOf, rangeOf, Front, Trail, onward, tipOf, isNear, accepted, walk, isPoint, sideEvents, eulerEvents}
+use Rattle.curve.specs.Walks.{walk-near, walk-far, walks}
 use Rattle.curve.specs.declared.fit.Fit.{Fit}
 use Rattle.curve.specs.declared.Side.{Side}
 

@@ -1,6 +1,6 @@
 -- One range of a cubic, in the source's own steps: where it ends, the spiral that is fitted, and the points along it. Definitions only.
 use Prim.Native.Nat.{ℕ}
-use mathlib.Core.Bool.{Bool, true, false, cond}
+use mathlib.Core.Bool.{Bool, cond}
 use mathlib.Core.List.{List}
 use lib.IntN.{pos}
 use lib.ListN.{getD}

@@ -5,7 +5,7 @@ use lib.Ieee.{Float}
 use Rattle.laws.specs.Only.{Only}
 use Rattle.spiral.specs.declared.util.Vec2.{Vec2}
 use Rattle.drawing.specs.Sheet.{Sheet, Drew}
-use Rattle.drawing.specs.SheetLaws.{drew-only}
+use Rattle.drawing.specs.Only.{drew-only}
 use Rattle.drawing.specs.declared.line.Drawn.{Drawn}
 use Rattle.curve.specs.Curve.{eulerEvents}
 
