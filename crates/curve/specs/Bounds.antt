@@ -53,8 +53,8 @@ number : (x : Float) → T (not (isNan (clampOf x (whole 1) (whole 100)))) → T
 unfolding isNan
 number x h =
     elim (either (isNan x)) [
-      inl t ↦ absurd (subst (λ (y : Float). T (not (isNan y))) (ap (λ (y : Float). clampOf y (whole 1) (whole 100)) (nan-is x t) ∙ clamp-nan (whole 1) (whole 100)) h)
-    | inr t ↦ t
+      | inl t ↦ absurd (subst (λ (y : Float). T (not (isNan y))) (ap (λ (y : Float). clampOf y (whole 1) (whole 100)) (nan-is x t) ∙ clamp-nan (whole 1) (whole 100)) h)
+      | inr t ↦ t
     ]
 
 counted : (x : Float) → T (not (isNan (clampOf x (whole 1) (whole 100)))) → (1 ≤ toUnsigned 32 (clampOf x (whole 1) (whole 100))) × (toUnsigned 32 (clampOf x (whole 1) (whole 100)) ≤ 100)
@@ -63,6 +63,7 @@ counted x h =
     in-range (clampOf x (whole 1) (whole 100)) (w .0) (w .1)
 
 -- ---- the lines of a range
+-- 1 to 100 lines, or the one stop
 abbrev pub Few : List Event → Type 0
 Few es = (1 ≤ length es) × (length es ≤ 100)
 
@@ -83,7 +84,8 @@ range-few s f at end = go (isNan (f .n)) (toUnsigned 32 (f .n))
         (omega (arith, l, k), omega (arith, l, k .0, k .1))
 
 -- ---- the ranges
-pub Each : (List Event → Type 0) → List (List Event) → Type 0
+-- P holds of each of them
+unfoldable pub Each : (List Event → Type 0) → List (List Event) → Type 0
 Each P [] = Unit {0}
 Each P (x ∷ xs) = P x × Each P xs
 
@@ -92,7 +94,7 @@ unfolding Each
 each-append P [] ys h k = k
 each-append P (x ∷ xs) ys h k = (h .0, each-append P xs ys (h .1) k)
 
--- what a walk draws, with d halvings left
+-- what a walk accepts, with d halvings left: at most 2^d ranges, each of 1 to 100 lines
 pub record Bounded (d : ℕ) (t : Trail) : Type 0 where
   pub ranges : length (t .ranges) ≤ 2 ^ d
   pub each : Each Few (t .ranges)
@@ -114,7 +116,7 @@ module _ (s : Side) where
   bounded = walks s (λ d u f t. Bounded d t) leaf join
 
   -- the ranges that a walk looks at: this one, and where it is halved those of its halves
-  pub looks : ℕ → ℕ → Front → ℕ
+  unfoldable pub looks : ℕ → ℕ → Front → ℕ
   looks zero u f = 1
   looks (suc d) u f =
       elim (isNear s f (tipOf s (suc d) u)) [ true ↦ 1 | false ↦ 1 + looks d (u * 2) f + looks d (u * 2 + 1) (walk s d (u * 2) f .front) ]

@@ -102,7 +102,7 @@ module _ (s : Side) where
   join d u f a b h k = rw flatten-append (chain-append (runsBack s) _ _ _ (flatten (a .ranges)) (flatten (b (a .front) .ranges)) h k)
 
   -- ---- the last range ends at the given end
-  Ends : ℕ → ℕ → Front → Trail → Type 0
+  abbrev Ends : ℕ → ℕ → Front → Trail → Type 0
   Ends d u f t = (u + 1) * 2 ^ d ≡ 65536 → t .front .at ≡ s .end
 
   last-end : (f : Fit) (to : Tip) → eq (to .t) (whole 1) ≡ true → rangeEnd s f to ≡ s .end
@@ -110,17 +110,17 @@ module _ (s : Side) where
   last-end f to h = rw h
 
   leaf-ends : (d u : ℕ) (f : Front) → Ends d u f (accepted s f (tipOf s d u))
-  unfolding Ends accepted tipOf
+  unfolding accepted tipOf
   leaf-ends d u f e =
       last-end _ _ (ap (λ (n : ℕ). eq (tipAt (s .points) (part n) .t) (whole 1)) e ∙ ap (λ (x : Float). eq x (whole 1)) (tip-one (s .points)) ∙ one-one)
 
   join-ends : (d u : ℕ) (f : Front) (a : Trail) (b : Front → Trail) → Ends d (u * 2) f a → Ends d (u * 2 + 1) (a .front) (b (a .front)) → Ends (suc d) u f (onward a b)
-  unfolding Ends onward
+  unfolding onward
   join-ends d u f a b h k e = k (omega (arith, e, ap (λ (x : ℕ). (u + 1) * x) (pow-suc 2 d)))
 
   -- where the four points are not one, the side is a chain from its start to its end
   pub side-chain : isPoint (s .points) ≡ false → Leads (s .start) (s .end) (sideEvents s)
-  unfolding sideEvents Ends
+  unfolding sideEvents
   side-chain h =
       let f = frontOf (firstTip (s .points)) (s .start) in
       rw h

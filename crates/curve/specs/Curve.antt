@@ -1,4 +1,4 @@
--- What is drawn for one side of a curve: events, in the source's order. Definitions only.
+-- What flatten_euler draws: events, in the source's order. A cubic is cut into ranges by halving, and each range is drawn by lines along a spiral. Definitions only.
 use Prim.Native.Nat.{ℕ, zero, suc, _+_, _-_, _*_, _^_}
 use mathlib.Core.Bool.{Bool, true, false, _&&_, cond}
 use mathlib.Core.List.{List, [], _∷_, _++_, flatten}
@@ -24,6 +24,7 @@ unfoldable pub linesOf : Side → Fit → ℕ → ℕ → Vec2 → Vec2 → List
 linesOf s f zero i at end = lineOf s at end ∷ []
 linesOf s f (suc m) i at end = lineOf s at (placeOf f i) ∷ linesOf s f m (i + 1) (placeOf f i) end
 
+-- where the number of lines is no number, a stop
 unfoldable pub rangeOf : Side → Fit → Vec2 → Vec2 → List Event
 rangeOf s f at end = cond (isNan (f .n)) (noCount ∷ []) (linesOf s f (toUnsigned 32 (f .n) - 1) 1 at end)
 
@@ -46,6 +47,7 @@ pub record Trail : Type 0 where
   pub ranges : List (List Event)
   pub front : Front
 
+-- one trail and then the next, from where the first one ends
 unfoldable pub onward : Trail → (Front → Trail) → Trail
 onward a f =
     let b = f (a .front) in
@@ -63,6 +65,7 @@ tipOf s d u = tipAt (s .points) (part ((u + 1) * 2 ^ d))
 unfoldable pub isNear : Side → Front → Tip → Bool
 isNear s f to = le (paramsOf (f .tip) to .err ⊗ s .scale) (dec 25 2)
 
+-- the range from a front to a tip, drawn
 unfoldable pub accepted : Side → Front → Tip → Trail
 accepted s f to =
     let fit = fitOf (s .offset) (s .scale) (f .tip .p) (to .p) (paramsOf (f .tip) to) in
@@ -74,16 +77,17 @@ unfoldable pub walk : Side → ℕ → ℕ → Front → Trail
 walk s zero u f = accepted s f (tipOf s zero u)
 walk s (suc d) u f =
     elim (isNear s f (tipOf s (suc d) u)) [
-      true ↦ accepted s f (tipOf s (suc d) u)
-    | false ↦ onward (walk s d (u * 2) f) (walk s d (u * 2 + 1))
+      | true ↦ accepted s f (tipOf s (suc d) u)
+      | false ↦ onward (walk s d (u * 2) f) (walk s d (u * 2 + 1))
     ]
 
 -- ---- a side
 
--- equal as numbers, all four
+-- the four points are equal as numbers
 unfoldable pub isPoint : List Vec2 → Bool
 isPoint ps = eqOf (point ps 0) (point ps 1) && eqOf (point ps 0) (point ps 2) && eqOf (point ps 0) (point ps 3)
 
+-- four equal points draw nothing; else the walk starts with the whole curve, which can be halved 16 times
 unfoldable pub sideEvents : Side → List Event
 sideEvents s =
     cond (isPoint (s .points)) [] (flatten (walk s 16 0 (frontOf (firstTip (s .points)) (s .start)) .ranges))

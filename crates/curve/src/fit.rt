@@ -14,9 +14,13 @@ use spiral::util::Vec2;
 const DERIV_THRESH: f32 = 1e-6;
 // How far away it is taken then.
 const DERIV_EPS: f32 = 1e-6;
-const TOL: f32 = 0.25;
+// How far a spiral may be off, and a line from its spiral.
+pub const TOL: f32 = 0.25;
+
 const K1_THRESH: f32 = 1e-3;
+
 const DIST_THRESH: f32 = 1e-3;
+
 const FRAC_1_SQRT_2: f32 = 0.707106781186547524400844362104849039;
 
 // A point of the cubic, the derivative there, and the parameter.

@@ -1,6 +1,7 @@
 // A cubic, or the curve at an offset from it, as lines: it is cut into ranges that are each near a spiral, and a range
 // is 1 to 100 lines.
 mod fit;
+
 ghost use mathlib.Core.Path.{_≡_};
 ghost use mathlib.Core.Bool.{_||_};
 ghost use mathlib.Core.List.{[], _∷_, flatten};
@@ -14,6 +15,7 @@ use drawing::line::no_count;
 use drawing::line::output_line_with_transform;
 use drawing::line::stopped;
 use fit::Fit;
+use fit::TOL;
 use fit::Tip;
 use fit::first_tip;
 use fit::fit_range;
@@ -24,7 +26,6 @@ use spiral::util::Vec2;
 use spiral::util::apply;
 use spiral::util::identity;
 
-const TOL: f32 = 0.25;
 const SUBDIV_LIMIT: f32 = 1.0 / 65536.0;
 
 // One side of a curve: its control points, how much the transform scales, the transform of each line, and the given ends.
@@ -76,7 +77,15 @@ fn range_lines(
     side_line(lines, so, path, side, lp0, end)
 }
 
-fn draw_range(lines: &mut [u32], ink: Drawn, path: u32, side: Side, fit: Fit, at: Vec2, end: Vec2) -> Drawn
+fn draw_range(
+    lines: &mut [u32],
+    ink: Drawn,
+    path: u32,
+    side: Side,
+    fit: Fit,
+    at: Vec2,
+    end: Vec2,
+) -> Drawn
     ensures { λ r. ⌜ Drew path (now (lines .entry)) ink (rangeOf side fit at end) (now (lines .exit)) r ⌝ }
 {
     let n = fit.n;
@@ -96,6 +105,7 @@ fn range_end(side: Side, fit: Fit, to: Tip) -> Vec2
     place(fit, maths::to_u32(fit.n))
 }
 
+// A range is accepted where its spiral is near, or where it is the shortest.
 fn accepts(err: f32, scale: f32, dt: f32) -> bool
     ensures { λ r. ⌜ r ≡ le (err ⊗ scale) (dec 25 2) || le dt (part 1) ⌝ }
 {
