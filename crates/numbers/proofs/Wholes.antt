@@ -1,31 +1,180 @@
--- A float below 2 ^ 23 as a whole number, by its truncation; and the sign put back. Assumes nothing.
+-- A float below 2 ^ 23 as a whole number, by a sum with 2 ^ 23; and the sign put back. Assumes nothing.
 use mathlib.Core.Path.{_≡_, refl, sym, ap, _∙_, subst}
-use mathlib.Core.Bool.{Bool, true, false, not, true≢false}
-use Prim.Native.Nat.{ℕ, _+_, _-_, _*_, _/_, _≤_, _<_, min}
-use native.Mathlib.Nat.{zero-lt-suc, mul-one, le-trans, le-of-eq, le-of-lt, lt-of-not-le, not-le-of-lt, div-lt-iff-lt-mul}
+use mathlib.Core.Bool.{Bool, true, false, not, cond, true≢false}
+use Prim.Native.Nat.{ℕ, zero, suc, _+_, _-_, _*_, _/_, _%_, _^_, _≤_, _<_, min, compare}
+use native.Mathlib.Nat.{zero-lt-suc, zero-mul, mul-one, mul-comm, mul-assoc, mul-right-comm, mul-pos, mul-le-mul-right, mul-lt-mul-of-pos-right, eq-of-mul-eq-mul-right, div-one, mod-one, sub-add-cancel, le-trans, le-of-eq, le-of-lt, le-of-suc-le-suc, le-antisymm, lt-of-le-of-lt, lt-of-lt-of-le, lt-of-not-le, not-le-of-lt, div-lt-iff-lt-mul, le-div-iff-mul-le}
 use native.Mathlib.Omega.{arith}
 use lib.IntN.{ℤ, pos}
-use lib.Dec.{T, ltb→lt, nltb→le, lit≤}
-use lib.Ieee.{Float, nan, inf, fin, binary32, up, down, round, neg, add, lt, fits, ofInt, toUnsigned}
-use lib.Ieee.Fits.{down-pos}
-use lib.Ieee.Exact.{HasValue}
-use lib.Ieee.Back.{round-whole}
+use lib.Dec.{T, ltb, ltb→lt, nltb→le, lit≤, lit<}
+use lib.Pow.{pow-pos, pow-mono}
+use lib.Ieee.{Float, nan, inf, fin, binary32, up, down, size, nearest, units, round, neg, sum, add, sub, lt, fits, ofInt, toUnsigned, inUnsigned}
+use lib.Ieee.Digits.{size-lt, size-le}
+use lib.Ieee.Fits.{down-pos, nearest-le, round-is}
+use lib.Ieee.Exact.{HasValue, units-val}
+use lib.Ieee.Nearest.{closest, closest-mono, closest-same, nearest-ge}
+use lib.Ieee.Back.{round-whole, unsigned-back}
 use lib.Ieee.Order.{transfer}
+use lib.Ieee.Scale.{round-same}
+use borrow.Author.Tests.{le-ltb}
 use Rattle.laws.specs.Dyadic.{add-value}
 use Rattle.numbers.specs.Words.{signOf, signed, absOf}
-use Rattle.numbers.specs.Whole.{wholeOf}
-use Rattle.numbers.specs.WholeLaws.{quot-more, quot-same, whole-large, whole-neg}
+use Rattle.numbers.specs.Whole.{quot, wholeOf}
+use Rattle.numbers.proofs.Integers.{small-exact}
+use Rattle.numbers.specs.WholeLaws.{quot-down, quot-up, whole-large, whole-neg}
 
 abbrev pub limit : Float
 limit = fin false 1 (pos 23)
 
--- ---- the truncation
+-- ---- from 2 ^ 23 to 2 ^ 24 a fraction is rounded to the nearest whole number
+room : (w p : ℕ) → w ≤ 16777216 → 0 < p → w * p < 340282366920938463463374607431768211456 * p
+room w p h k = lt-of-le-of-lt (mul-le-mul-right p h) (mul-lt-mul-of-pos-right (lit< tt) k)
+
+per-one : (x : Float) (w p : ℕ) → 0 < p → HasValue x false (w * p) p → HasValue x false w 1
+per-one nan w p P v = v
+per-one (inf t) w p P v = v
+per-one (fin t m e) w p P v = (v .0, eq-of-mul-eq-mul-right p P (m * up e * 1) (w * down e) (ap (λ (z : ℕ). z * p) (mul-one (m * up e)) ∙ v .1 ∙ mul-right-comm w p (down e)))
+
+exactly : (z : ℕ) → z ≤ 173 → 172 < z → z - 24 ≡ 149
+exactly z h k = omega arith
+
+module _ (n d : ℕ) (D : 0 < d) (low : 8388608 * d ≤ n) (high : n < 16777216 * d) where
+  dropped : size (n * 2 ^ 149 / d) - 24 ≡ 149
+  dropped =
+      let w = n * 2 ^ 149 / d in
+      let l : 2 ^ 172 ≤ w = le-div-iff-mul-le D .1 (le-trans (le-of-eq (mul-right-comm 8388608 (2 ^ 149) d)) (mul-le-mul-right (2 ^ 149) low)) in
+      let h : w < 2 ^ 173 = div-lt-iff-lt-mul D .1 (lt-of-lt-of-le (mul-lt-mul-of-pos-right high (pow-pos 149)) (le-of-eq (mul-right-comm 16777216 d (2 ^ 149)))) in
+      exactly (size w) (size-le w 173 h) (lt-of-not-le (λ (g : size w ≤ 172). not-le-of-lt (lt-of-lt-of-le (size-lt w) (pow-mono g)) l))
+
+  closest-small : closest n d ≤ 16777216
+  closest-small = le-trans (nearest-le (n / d) (compare (n % d * 2) d)) (div-lt-iff-lt-mul D .1 high)
+
+  pub round-closest : HasValue (round binary32 false n d) false (closest n d) 1
+  round-closest =
+      let p = 2 ^ 149 in
+      let is : round binary32 false n d ≡ units binary32 false (closest n d) 149 =
+          round-is binary32 false n d
+          ∙ ap (λ (k : ℕ). units binary32 false (closest (n * p) (d * 2 ^ k)) k) dropped
+          ∙ ap (λ (w : ℕ). units binary32 false w 149) (closest-same (n * p) (d * p) n d (mul-pos D (pow-pos 149)) D (mul-assoc n p d ∙ ap (λ (z : ℕ). n * z) (mul-comm p d))) in
+      per-one (round binary32 false n d) (closest n d) p (pow-pos 149)
+      (subst (λ (x : Float). HasValue x false (closest n d * p) p) (sym is) (units-val binary32 false (closest n d) 149 (room (closest n d) p closest-small (pow-pos 149))))
+
+  pub closest-large : 8388608 ≤ closest n d
+  closest-large = le-trans (le-div-iff-mul-le D .1 low) (nearest-ge (n / d) (compare (n % d * 2) d))
+
+-- the nearest whole number is less than 1 away
+closest-whole : (k : ℕ) → closest k 1 ≡ k
+closest-whole k = ap (λ (r : ℕ). nearest (k / 1) (compare (r * 2) 1)) (mod-one k) ∙ div-one k
+
+above : (n d : ℕ) → 0 < d → closest n d * d < n + d
+above n d D =
+    let q = quot true n d in
+    let h = quot-up n d D in
+    lt-of-le-of-lt (mul-le-mul-right d (le-trans (closest-mono n d q 1 D (zero-lt-suc 0) (le-trans (le-of-eq (mul-one n)) (h .0))) (le-of-eq (closest-whole q)))) (h .1)
+
+below : (n d : ℕ) → 0 < d → n < (closest n d + 1) * d
+below n d D = lt-of-lt-of-le (quot-down n d D .1) (mul-le-mul-right d (more (n / d) (closest n d) (nearest-ge (n / d) (compare (n % d * 2) d))))
+  where
+    more : (q w : ℕ) → q ≤ w → q + 1 ≤ w + 1
+    more q w h = omega arith
+
+-- ---- a difference of whole numbers
+taken : (a b c k j : ℕ) → a ≡ (k + j) * c → b ≡ j * c → (b ≤ a) × (a - b ≡ k * c)
+taken a b c k j p q = (omega arith, omega arith)
+
+sub-whole : (x y : Float) (k j : ℕ) → HasValue x false (k + j) 1 → HasValue y false j 1 → sub binary32 x y ≡ round binary32 false k 1
+unfolding sub add neg sum
+sub-whole nan y k j v w = absurd v
+sub-whole (inf s) y k j v w = absurd v
+sub-whole (fin s m e) nan k j v w = absurd w
+sub-whole (fin s m e) (inf t) k j v w = absurd w
+sub-whole (fin true m e) (fin t n g) k j v w = absurd (true≢false (v .0))
+sub-whole (fin false m e) (fin true n g) k j v w = absurd (true≢false (w .0))
+sub-whole (fin false m e) (fin false n g) k j v w =
+    let a = m * up e * down g in
+    let b = n * up g * down e in
+    let c = down e * down g in
+    let t = taken a b c k j
+        (ap (λ (z : ℕ). z * down g) (sym (mul-one (m * up e)) ∙ v .1) ∙ mul-assoc (k + j) (down e) (down g))
+        (ap (λ (z : ℕ). z * down e) (sym (mul-one (n * up g)) ∙ w .1) ∙ mul-right-comm j (down g) (down e) ∙ mul-assoc j (down e) (down g)) in
+    ap (λ (z : Bool). cond z (round binary32 true (b - a) c) (round binary32 false (a - b) c)) (le-ltb a b (t .0))
+    ∙ round-same binary32 false (a - b) c k 1 (mul-pos (down-pos e) (down-pos g)) (zero-lt-suc 0) (mul-one (a - b) ∙ t .1)
+
+-- ---- two values that are not negative, compared
+lt-values : (x y : Float) (a c b d : ℕ) → 0 < c → 0 < d → HasValue x false a c → HasValue y false b d → (T (lt x y) → a * d < b * c) × (T (not (lt x y)) → b * c ≤ a * d)
+unfolding lt
+lt-values nan y a c b d C D v w = absurd v
+lt-values (inf s) y a c b d C D v w = absurd v
+lt-values (fin s m e) nan a c b d C D v w = absurd w
+lt-values (fin s m e) (inf t) a c b d C D v w = absurd w
+lt-values (fin true m e) (fin t n g) a c b d C D v w = absurd (true≢false (v .0))
+lt-values (fin false m e) (fin true n g) a c b d C D v w = absurd (true≢false (w .0))
+lt-values (fin false m e) (fin false n g) a c b d C D v w =
+    let A = m * up e in
+    let B = n * up g in (
+      (λ h. lt-of-not-le (λ (k : b * c ≤ a * d). not-le-of-lt (ltb→lt (A * down g) (B * down e) h) (transfer B A (down g) (down e) b a d c D C (w .1) (v .1) k))),
+      (λ h. transfer b a d c B A (down g) (down e) (down-pos g) (down-pos e) (sym (w .1)) (sym (v .1)) (nltb→le (A * down g) (B * down e) h)),
+    )
+
+-- ---- the whole number next to a
+abbrev pub nearTo : Float → Float
+nearTo a = sub binary32 (add binary32 a limit) limit
+
+-- a is num / den, and nearTo a is the whole number n, less than 1 away
+record Near (a : Float) : Type 0 where
+  num : ℕ
+  den : ℕ
+  n : ℕ
+  some : 0 < den
+  value : HasValue a false num den
+  whole : (u : Bool) → wholeOf u a ≡ round binary32 false (quot u num den) 1
+  is : nearTo a ≡ round binary32 false n 1
+  small : n ≤ 8388608
+  above : n * den < num + den
+  below : num < n * den + den
+
 under : (m : ℕ) (e : ℤ) → T (lt (fin false m e) limit) → m * up e < 8388608 * down e
 unfolding lt
 under m e h = subst (λ (z : ℕ). z < 8388608 * down e) (mul-one (m * up e)) (ltb→lt (m * up e * 1) (8388608 * down e) h)
 
-uncapped : (q : ℕ) → q < 8388608 → min q 4294967295 ≡ q
-uncapped q h = omega arith
+-- 2 ^ 23 on, a's fraction is N / E, and w is the whole number nearest to it
+record Moved (a d : ℕ) : Type 0 where
+  pos : 0 < d * 1
+  low : 8388608 * (d * 1) ≤ a * 1 + 8388608 * d
+  high : a * 1 + 8388608 * d < 16777216 * (d * 1)
+
+moved : (a d : ℕ) → 0 < d → a < 8388608 * d → Moved a d
+moved a d D h = record { pos = omega arith; low = omega arith; high = omega arith }
+
+back : (a d n : ℕ) → (n + 8388608) * (d * 1) < a * 1 + 8388608 * d + d * 1 → a * 1 + 8388608 * d < (n + 8388608 + 1) * (d * 1) → (n * d < a + d) × (a < n * d + d)
+back a d n h k = (omega arith, omega arith)
+
+within : (n : ℕ) → n + 8388608 ≤ 16777216 → n ≤ 8388608
+within n h = omega arith
+
+near-fin : (m : ℕ) (e : ℤ) → m * up e < 8388608 * down e → Near (fin false m e)
+near-fin m e h =
+    let a = m * up e in
+    let d = down e in
+    let c = moved a d (down-pos e) h in
+    let N = a * 1 + 8388608 * d in
+    let w = closest N (d * 1) in
+    let n = w - 8388608 in
+    let q : n + 8388608 ≡ w = sub-add-cancel (closest-large N (d * 1) (c .pos) (c .low) (c .high)) in
+    let s = subst (λ (x : Float). HasValue x false (n + 8388608) 1) (sym (add-value binary32 (fin false m e) limit false a d 8388608 1 (down-pos e) (zero-lt-suc 0) (refl, refl) (refl, refl)))
+        (subst (λ (z : ℕ). HasValue (round binary32 false N (d * 1)) false z 1) (sym q) (round-closest N (d * 1) (c .pos) (c .low) (c .high))) in
+    let b = back a d n (subst (λ (z : ℕ). z * (d * 1) < N + d * 1) (sym q) (above N (d * 1) (c .pos))) (subst (λ (z : ℕ). N < (z + 1) * (d * 1)) (sym q) (below N (d * 1) (c .pos))) in
+    record {
+      num = a;
+      den = d;
+      n = n;
+      some = down-pos e;
+      value = (refl, refl);
+      whole = λ u. unfold wholeOf in refl;
+      is = sub-whole (add binary32 (fin false m e) limit) limit n 8388608 s (refl, refl);
+      small = within n (le-trans (le-of-eq q) (closest-small N (d * 1) (c .pos) (c .low) (c .high)));
+      above = b .0;
+      below = b .1;
+    }
 
 no-nan : T (lt nan limit) → ⊥
 unfolding lt
@@ -35,60 +184,84 @@ no-inf : T (lt (inf false) limit) → ⊥
 unfolding lt
 no-inf h = h
 
-cut : (a : Float) → T (not (signOf a)) → T (lt a limit) → ofInt binary32 (pos (toUnsigned 32 a)) ≡ wholeOf false a
+near : (a : Float) → T (not (signOf a)) → T (lt a limit) → Near a
+unfolding signOf
+near nan s h = absurd (no-nan h)
+near (inf true) s h = absurd s
+near (inf false) s h = absurd (no-inf h)
+near (fin true m e) s h = absurd s
+near (fin false m e) s h = near-fin m e (under m e h)
+
+-- what is no more than a / d, and one more is above it, is the quotient; and the same rounded up
+is-quot : (a d k : ℕ) → 0 < d → k * d ≤ a → a < k * d + d → k ≡ a / d
+is-quot a d k D h l = le-antisymm (le-div-iff-mul-le D .1 h) (le-of-suc-le-suc (div-lt-iff-lt-mul D .1 (lt-of-lt-of-le l (le-of-eq (next k d)))))
+  where
+    next : (k d : ℕ) → k * d + d ≡ suc k * d
+    next k d = omega arith
+
+is-quot-up : (a d k : ℕ) → 0 < d → a ≤ k * d → k * d < a + d → k ≡ quot true a d
+is-quot-up a d k D h l = is-quot (a + (d - 1)) d k D (omega arith) (omega arith)
+
+one-up : (n a d : ℕ) → 0 < d → n * d < a * 1 → a < n * d + d → n * 1 + 1 * 1 ≡ quot true a d
+one-up n a d D h l = is-quot-up a d (n * 1 + 1 * 1) D (omega arith) (omega arith)
+
+nothing : (a z : ℕ) → z ≡ 0 → a < z → ⊥
+nothing a z p h = omega arith
+
+one-down : (n a d : ℕ) → 0 < d → a * 1 < n * d → n * d < a + d → (n - 1 + 1 ≡ n) × (n - 1 ≡ a / d)
+one-down zero a d D h l = absurd (nothing (a * 1) (0 * d) (zero-mul d) h)
+one-down (suc k) a d D h l = (omega arith, less k ∙ is-quot a d k D (omega arith) (omega arith))
+  where
+    less : (k : ℕ) → suc k - 1 ≡ k
+    less k = omega arith
+
+abbrev one : Float
+one = fin false 1 (pos 0)
+
+module _ (a : Float) (s : T (not (signOf a))) (h : T (lt a limit)) where
+  r : Near a
+  r = near a s h
+
+  value : HasValue (nearTo a) false (r .n) 1
+  value = subst (λ (y : Float). HasValue y false (r .n) 1) (sym (r .is)) (round-whole binary32 false (r .n) (le-trans (r .small) (lit≤ tt)))
+
+  becomes : (u : Bool) (y : Float) (k : ℕ) → y ≡ round binary32 false k 1 → k ≡ quot u (r .num) (r .den) → y ≡ wholeOf u a
+  becomes u y k p q = p ∙ ap (λ (z : ℕ). round binary32 false z 1) q ∙ sym (r .whole u)
+
+  pub raised : T (lt (nearTo a) a) → add binary32 (nearTo a) one ≡ wholeOf true a
+  raised t = becomes true (add binary32 (nearTo a) one) (r .n * 1 + 1 * 1) (add-value binary32 (nearTo a) one false (r .n) 1 1 1 (zero-lt-suc 0) (zero-lt-suc 0) value (refl, refl))
+      (one-up (r .n) (r .num) (r .den) (r .some) (lt-values (nearTo a) a (r .n) 1 (r .num) (r .den) (zero-lt-suc 0) (r .some) value (r .value) .0 t) (r .below))
+
+  pub high-enough : T (not (lt (nearTo a) a)) → nearTo a ≡ wholeOf true a
+  high-enough t = becomes true (nearTo a) (r .n) (r .is)
+      (is-quot-up (r .num) (r .den) (r .n) (r .some) (le-trans (le-of-eq (sym (mul-one (r .num)))) (lt-values (nearTo a) a (r .n) 1 (r .num) (r .den) (zero-lt-suc 0) (r .some) value (r .value) .1 t)) (r .above))
+
+  pub lowered : T (lt a (nearTo a)) → sub binary32 (nearTo a) one ≡ wholeOf false a
+  lowered t =
+      let k = one-down (r .n) (r .num) (r .den) (r .some) (lt-values a (nearTo a) (r .num) (r .den) (r .n) 1 (r .some) (zero-lt-suc 0) (r .value) value .0 t) (r .above) in
+      becomes false (sub binary32 (nearTo a) one) (r .n - 1) (sub-whole (nearTo a) one (r .n - 1) 1 (subst (λ (z : ℕ). HasValue (nearTo a) false z 1) (sym (k .0)) value) (refl, refl)) (k .1)
+
+  pub low-enough : T (not (lt a (nearTo a))) → nearTo a ≡ wholeOf false a
+  low-enough t = becomes false (nearTo a) (r .n) (r .is)
+      (is-quot (r .num) (r .den) (r .n) (r .some) (le-trans (lt-values a (nearTo a) (r .num) (r .den) (r .n) 1 (r .some) (zero-lt-suc 0) (r .value) value .1 t) (le-of-eq (mul-one (r .num)))) (r .below))
+
+-- ---- the same as an integer
+cut : (a : Float) → T (not (signOf a)) → T (lt a limit) → (toUnsigned 32 a ≤ 8388608) × (wholeOf false a ≡ ofInt binary32 (pos (toUnsigned 32 a)))
 unfolding signOf ofInt toUnsigned wholeOf
 cut nan s h = absurd (no-nan h)
 cut (inf true) s h = absurd s
 cut (inf false) s h = absurd (no-inf h)
 cut (fin true m e) s h = absurd s
-cut (fin false m e) s h = ap (λ (z : ℕ). round binary32 false z 1) (uncapped (m * up e / down e) (div-lt-iff-lt-mul (down-pos e) .1 (under m e h)))
+cut (fin false m e) s h = let u = uncapped (m * up e / down e) (div-lt-iff-lt-mul (down-pos e) .1 (under m e h)) in (u .0, ap (λ (z : ℕ). round binary32 false z 1) (u .1))
+  where
+    uncapped : (q : ℕ) → q < 8388608 → (min q 4294967295 ≤ 8388608) × (q ≡ min q 4294967295)
+    uncapped q h = (omega arith, omega arith)
 
-pub truncated : (a t : Float) (n : ℕ) → T (not (signOf a)) → T (lt a limit) → t ≡ ofInt binary32 (pos n) → n ≡ toUnsigned 32 a → t ≡ wholeOf false a
-truncated a t n s h p q = p ∙ ap (λ (k : ℕ). ofInt binary32 (pos k)) q ∙ cut a s h
-
-cut-value : (m : ℕ) (e : ℤ) → m * up e < 8388608 * down e → HasValue (round binary32 false (m * up e / down e) 1) false (m * up e / down e) 1
-cut-value m e h = round-whole binary32 false (m * up e / down e) (le-trans (le-of-lt (div-lt-iff-lt-mul (down-pos e) .1 h)) (lit≤ tt))
-
--- ---- whether something was cut off
-cut-below : (y : Float) (q m : ℕ) (e : ℤ) → HasValue y false q 1 → T (lt y (fin false m e)) → q * down e < m * up e
-unfolding lt
-cut-below nan q m e v h = absurd v
-cut-below (inf s) q m e v h = absurd v
-cut-below (fin true n d) q m e v h = absurd (true≢false (v .0))
-cut-below (fin false n d) q m e v h =
-    lt-of-not-le (λ (g : m * up e ≤ q * down e).
-    not-le-of-lt (ltb→lt (n * up d * down e) (m * up e * down d) h)
-    (transfer (m * up e) (n * up d) (down e) (down d) (m * up e) q (down e) 1 (down-pos e) (zero-lt-suc 0) refl (v .1) (le-trans (le-of-eq (mul-one (m * up e))) g)))
-
-cut-none : (y : Float) (q m : ℕ) (e : ℤ) → HasValue y false q 1 → T (not (lt y (fin false m e))) → m * up e ≤ q * down e
-unfolding lt
-cut-none nan q m e v h = absurd v
-cut-none (inf s) q m e v h = absurd v
-cut-none (fin true n d) q m e v h = absurd (true≢false (v .0))
-cut-none (fin false n d) q m e v h =
-    le-trans (le-of-eq (sym (mul-one (m * up e))))
-    (transfer (m * up e) q (down e) 1 (m * up e) (n * up d) (down e) (down d) (down-pos e) (down-pos d) refl (sym (v .1)) (nltb→le (n * up d * down e) (m * up e * down d) h))
-
-pub raised : (a : Float) → T (not (signOf a)) → T (lt a limit) → T (lt (wholeOf false a) a) → add binary32 (wholeOf false a) (fin false 1 (pos 0)) ≡ wholeOf true a
-unfolding signOf wholeOf
-raised nan s h l = absurd (no-nan h)
-raised (inf true) s h l = absurd s
-raised (inf false) s h l = absurd (no-inf h)
-raised (fin true m e) s h l = absurd s
-raised (fin false m e) s h l =
-    let q = m * up e / down e in
-    let v = cut-value m e (under m e h) in
-    add-value binary32 (round binary32 false q 1) (fin false 1 (pos 0)) false q 1 1 1 (zero-lt-suc 0) (zero-lt-suc 0) v (refl, refl)
-    ∙ ap (λ (z : ℕ). round binary32 false z 1) (ap (λ (z : ℕ). z + 1) (mul-one q) ∙ sym (quot-more (m * up e) (down e) (down-pos e) (cut-below (round binary32 false q 1) q m e v l)))
-
-pub stayed : (a : Float) → T (not (signOf a)) → T (lt a limit) → T (not (lt (wholeOf false a) a)) → wholeOf false a ≡ wholeOf true a
-unfolding signOf wholeOf
-stayed nan s h l = refl
-stayed (inf t) s h l = refl
-stayed (fin true m e) s h l = absurd s
-stayed (fin false m e) s h l =
-    let q = m * up e / down e in
-    ap (λ (z : ℕ). round binary32 false z 1) (sym (quot-same (m * up e) (down e) (down-pos e) (cut-none (round binary32 false q 1) q m e (cut-value m e (under m e h)) l)))
+pub as-unsigned : (a y : Float) → T (not (signOf a)) → T (lt a limit) → y ≡ wholeOf false a → T (inUnsigned binary32 32 y) × (toUnsigned 32 y ≡ toUnsigned 32 a)
+as-unsigned a y s h p =
+    let c = cut a s h in
+    let n = toUnsigned 32 a in
+    subst (λ (z : Float). T (inUnsigned binary32 32 z) × (toUnsigned 32 z ≡ n)) (sym (p ∙ c .1)) (unsigned-back binary32 32 n (small-exact n (lt-of-le-of-lt (c .0) (lit< tt))) (lt-of-le-of-lt (c .0) (lit< tt)))
 
 -- ---- the sign
 pub with-sign : (u : Bool) (x : Float) → signed (signOf x) (wholeOf u (absOf x)) ≡ wholeOf u x

@@ -9,11 +9,33 @@ ghost use Rattle.numbers.specs.Words.{signOf};
 ghost use Rattle.numbers.specs.Whole.{wholeOf, floorOf, ceilOf};
 use crate::words;
 
+// a, of clear sign and below 2^23, as a whole number: rounded up or down. The floats from 2^23 to 2^24 are the whole numbers
+// there, so the sum leaves no fraction, and n is less than 1 away from a.
+fn near(up: bool, a: f32) -> f32
+    requires { ⌜ T (not (signOf a)) ⌝ ∗ ⌜ T (lt a (fin false 1 (pos 23))) ⌝ }
+    ensures { λ r. ⌜ r ≡ wholeOf up a ⌝ }
+{
+    let n = a + 8388608.0 - 8388608.0;
+    if up {
+        if n < a {
+            return n + 1.0;
+        }
+        return n;
+    }
+    if a < n {
+        return n - 1.0;
+    }
+    n
+}
+
 // Rust's `x as u32`.
 pub fn to_u32(x: f32) -> u32
     ensures { λ r. ⌜ r ≡ toUnsigned 32 x ⌝ }
 {
-    if x > -1.0 {
+    if x > 0.0 {
+        if x < 8388608.0 {
+            return near(false, x) as u32;
+        }
         if x < 4294967296.0 {
             return std::num::truncating_f32_to_u64(x) as u32;
         }
@@ -53,18 +75,6 @@ pub fn to_i32(x: f32) -> i32
     ensures { λ r. ⌜ r ≡ toSigned 31 x ⌝ }
 {
     capped(words::is_negative(x), to_u32(words::abs(x)))
-}
-
-// a, of clear sign and below 2^23, as a whole number: rounded up or down.
-fn near(up: bool, a: f32) -> f32
-    requires { ⌜ T (not (signOf a)) ⌝ ∗ ⌜ T (lt a (fin false 1 (pos 23))) ⌝ }
-    ensures { λ r. ⌜ r ≡ wholeOf up a ⌝ }
-{
-    let t = from_u32(to_u32(a));
-    if !up {
-        return t;
-    }
-    if t < a { t + 1.0 } else { t }
 }
 
 // x as a whole number: away from zero, or towards it. From 2^23 on every float is whole.

@@ -1,6 +1,6 @@
 // sin, cos, atan2, asin and acos of f32: fixed sequences of operations, each rounded once, as specs/Trig.antt gives them.
 ghost use mathlib.Core.Path.{_≡_};
-ghost use Rattle.trig.specs.Trig.{boundedOf, sinNear, cosNear, quartersOf, withinOf, reducedOf, curveOf, waveOf, sinOf, cosOf, atanNear, slopeOf, angleOf, atan2Of, asinNear, acosNear, arcSineOf, arcCosineOf, asinOf, acosOf};
+ghost use Rattle.trig.specs.Trig.{boundedOf, sinNear, cosNear, quartersOf, reducedOf, curveOf, waveOf, sinOf, cosOf, atanNear, slopeOf, angleOf, atan2Of, asinNear, acosNear, arcSineOf, arcCosineOf, asinOf, acosOf};
 use numbers::whole::from_u32;
 use numbers::whole::to_u32;
 use numbers::words::abs;
@@ -61,14 +61,8 @@ fn quarters(a: f32) -> Turn
     }
 }
 
-// A large angle is taken modulo 2π.
-fn within(a: f32) -> f32
-    ensures { λ r. ⌜ r ≡ withinOf a ⌝ }
-{
-    if a <= 1024.0 { a } else { a % TWO_PI }
-}
-
-// The reduction of an angle a that is not negative. The test is for speed alone: `quarters` would give the same.
+// The reduction of an angle a that is not negative. The first test is for speed alone: `quarters` would give the same. A large
+// angle is taken modulo 2π, on a way of its own: a choice between a and the remainder would cost every angle a division.
 fn reduce(a: f32) -> Turn
     ensures { λ t. ⌜ t ≡ reducedOf a ⌝ }
 {
@@ -78,7 +72,10 @@ fn reduce(a: f32) -> Turn
             rest: a,
         };
     }
-    quarters(within(a))
+    if a <= 1024.0 {
+        return quarters(a);
+    }
+    quarters(a % TWO_PI)
 }
 
 // sin of k quarter turns and r: but for its sign, and then with it, and from -1 to 1.
