@@ -1,6 +1,9 @@
 // sin, cos, atan2, asin and acos of f32: fixed sequences of operations, each rounded once, as specs/Trig.antt gives them.
 ghost use mathlib.Core.Path.{_≡_};
-ghost use Rattle.trig.specs.Trig.{boundedOf, sinNear, cosNear, quartersOf, reducedOf, curveOf, waveOf, sinOf, cosOf, atanNear, slopeOf, angleOf, atan2Of, asinNear, acosNear, arcSineOf, arcCosineOf, asinOf, acosOf};
+ghost use mathlib.Core.Bool.{cond};
+ghost use Prim.Native.Nat.{_+_, _≤_};
+ghost use lib.Ieee.{nan, lt};
+ghost use Rattle.trig.specs.Trig.{infinity, boundedOf, quartersOf, reducedOf, curveOf, waveOf, sinOf, cosOf, atanNear, slopeOf, angleOf, atan2Of, asinNear, acosNear, arcSineOf, arcCosineOf, asinOf, acosOf};
 use numbers::whole::from_u32;
 use numbers::whole::to_u32;
 use numbers::words::abs;
@@ -26,21 +29,6 @@ fn bounded(lo: f32, hi: f32, v: f32) -> f32
     }
 }
 
-// sin and cos near 0.
-fn sin_near(r: f32) -> f32
-    ensures { λ v. ⌜ v ≡ sinNear r ⌝ }
-{
-    let z = r * r;
-    ((-0.000194948792 * z + 0.00833205506) * z + -0.166666552) * (z * r) + r
-}
-
-fn cos_near(r: f32) -> f32
-    ensures { λ v. ⌜ v ≡ cosNear r ⌝ }
-{
-    let z = r * r;
-    ((-0.00135977037 * z + 0.0416564010) * z + -0.499999017) * z + 1.0
-}
-
 // An angle: so many quarter turns, and a rest.
 struct Turn {
     quarters: u32,
@@ -61,28 +49,23 @@ fn quarters(a: f32) -> Turn
     }
 }
 
-// The reduction of an angle a that is not negative. The first test is for speed alone: `quarters` would give the same. A large
-// angle is taken modulo 2π, on a way of its own: a choice between a and the remainder would cost every angle a division.
-fn reduce(a: f32) -> Turn
-    ensures { λ t. ⌜ t ≡ reducedOf a ⌝ }
+fn pick(c: bool, a: f32, b: f32) -> f32
+    ensures { λ r. ⌜ r ≡ cond c a b ⌝ }
 {
-    if a < 0.78125 {
-        return Turn {
-            quarters: 0,
-            rest: a,
-        };
-    }
-    if a <= 1024.0 {
-        return quarters(a);
-    }
-    quarters(a % TWO_PI)
+    if c { a } else { b }
 }
 
-// sin of k quarter turns and r: but for its sign, and then with it, and from -1 to 1.
+// sin of k quarter turns and r: but for its sign, and then with it, and from -1 to 1. The polynomials of sin and cos have
+// one form, so that a choice of the numbers in it will do, and no branch that cannot be foreseen.
 fn curve(k: u32, r: f32) -> f32
     ensures { λ v. ⌜ v ≡ curveOf k r ⌝ }
 {
-    if k % 2 == 0 { sin_near(r) } else { cos_near(r) }
+    let even = k % 2 == 0;
+    let z = r * r;
+    let u = pick(even, -0.000194948792, -0.00135977037);
+    let v = pick(even, 0.00833205506, 0.0416564010);
+    let w = pick(even, -0.166666552, -0.499999017);
+    ((u * z + v) * z + w) * pick(even, z * r, z) + pick(even, r, 1.0)
 }
 
 fn wave(k: u32, r: f32) -> f32
@@ -91,29 +74,43 @@ fn wave(k: u32, r: f32) -> f32
     bounded(-1.0, 1.0, turned(k % 4 >= 2, curve(k, r)))
 }
 
+// sin of the angle a and one quarter turn more where on is 1. The sum cannot wrap.
+fn turns(on: u32, a: f32) -> f32
+    requires { ⌜ on ≤ 1 ⌝ }
+    ensures { λ v. ⌜ v ≡ waveOf (quartersOf a .quarters + on) (quartersOf a .rest) ⌝ }
+{
+    let t = quarters(a);
+    wave(t.quarters % 4 + on, t.rest)
+}
+
+// The same for an angle that is not negative: a small one is its own rest, a large one is taken modulo 2π.
+fn sine(on: u32, a: f32) -> f32
+    requires { ⌜ on ≤ 1 ⌝ }
+    ensures { λ v. ⌜ v ≡ cond (lt a infinity) (waveOf (reducedOf a .quarters + on) (reducedOf a .rest)) nan ⌝ }
+{
+    if a < 0.78125 {
+        return wave(on, a);
+    }
+    if a <= 1024.0 {
+        return turns(on, a);
+    }
+    if a < 1.0 / 0.0 {
+        return turns(on, a % TWO_PI);
+    }
+    0.0 / 0.0
+}
+
 pub fn sin(x: f32) -> f32
     ensures { λ r. ⌜ r ≡ sinOf x ⌝ }
 {
-    let a = abs(x);
-    if a < 1.0 / 0.0 {
-        let t = reduce(a);
-        turned(is_negative(x), wave(t.quarters, t.rest))
-    } else {
-        0.0 / 0.0
-    }
+    turned(is_negative(x), sine(0, abs(x)))
 }
 
-// cos is sin a quarter turn on. The sum cannot wrap.
+// cos is sin a quarter turn on.
 pub fn cos(x: f32) -> f32
     ensures { λ r. ⌜ r ≡ cosOf x ⌝ }
 {
-    let a = abs(x);
-    if a < 1.0 / 0.0 {
-        let t = reduce(a);
-        wave(t.quarters % 4 + 1, t.rest)
-    } else {
-        0.0 / 0.0
-    }
+    sine(1, abs(x))
 }
 
 // The arc tangent of -1 to 1.

@@ -1,44 +1,38 @@
 -- `trig::sin` meets its contract. Assumes nothing.
-use mathlib.Core.Path.{sym, ap, _∙_}
-use mathlib.Core.Bool.{false}
-use lib.Ieee.{Float, inf, ofBits, div, lt}
+use mathlib.Core.Path.{_≡_, refl}
+use mathlib.Core.Bool.{Bool, true, false, cond}
+use Prim.Native.Nat.{_+_}
+use native.Mathlib.Nat.{add-zero}
+use lib.Ieee.{Float, nan, neg}
+use Rattle.numbers.specs.Words.{signed}
 use Rattle.trig.specs.Trig.{sinOf}
 use borrow.Author.Needs.{needs}
 use Rattle.trig.proofs.sin.Statement.{statement}
 use Rattle.trig.proofs.sin.Tie as tie
 
-abs-requires : tie.Need-abs-requires
-abs-requires c κs = search needs
-
-reduce-requires : tie.Need-reduce-requires
-reduce-requires c κs = search needs
+-- a NaN has no sign
+apart : (b s : Bool) (v : Float) → signed s (cond b v nan) ≡ cond b (signed s v) nan
+unfolding signed neg
+apart true s v = refl
+apart false true v = refl
+apart false false v = refl
 
 is-negative-requires : tie.Need-is-negative-requires
 is-negative-requires c κs = search needs
 
-wave-requires : tie.Need-wave-requires
-wave-requires c κs = search needs
+abs-requires : tie.Need-abs-requires
+abs-requires c κs = search needs
+
+sine-requires : tie.Need-sine-requires
+sine-requires c κs = search needs
 
 turned-requires : tie.Need-turned-requires
 turned-requires c κs = search needs
 
 returns : tie.Need-returns
-unfolding sinOf div ofBits
-returns c = rw (ap (λ (s : Float). lt s (inf false)) (sym (c .before .before .before .before .before .abs .ensures)) ∙ c .before .before .before .before .if1 .taken)
-    (rw (c .turned .ensures, c .before .wave .ensures, c .before .before .is-negative .ensures, c .before .before .before .reduce .ensures, c .before .before .before .before .before .abs .ensures))
-
-returns-2 : tie.Need-returns-2
-unfolding sinOf div ofBits
-returns-2 c = rw (ap (λ (s : Float). lt s (inf false)) (sym (c .before .abs .ensures)) ∙ c .if1 .left)
+unfolding sinOf
+returns c = rw (c .turned .ensures, c .before .sine .ensures, apart, add-zero, c .before .before .abs .ensures, c .before .before .before .is-negative .ensures)
 
 pub sin-spec : {M : Type 1} → statement M
 sin-spec =
-    tie.close
-    (tie.spec
-    abs-requires
-    reduce-requires
-    is-negative-requires
-    wave-requires
-    turned-requires
-    returns
-    returns-2)
+    tie.close (tie.spec is-negative-requires abs-requires sine-requires turned-requires returns)
