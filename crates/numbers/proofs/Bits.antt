@@ -1,13 +1,19 @@
 -- What single floats and words say of NaN and of the sign. Assumes nothing.
 use mathlib.Core.Path.{_≡_, refl, sym, ap, _∙_, subst}
 use mathlib.Core.Bool.{Bool, true, false, not, cond}
-use Prim.Native.Nat.{ℕ, zero, suc, _+_, _/_, _%_, _<_, _≤_}
-use lib.Dec.{T, leb, eqb}
-use lib.Ieee.{Float, nan, inf, binary32, odd, ofFields, ofBits, toBits, fits, isNan, nanBits, ne}
+use Prim.Native.Nat.{ℕ, zero, suc, _+_, _*_, _/_, _%_, _<_, _≤_}
+use native.Mathlib.Nat.{zero-lt-suc, zero-add, zero-mul, one-mul, mul-one, mul-pos, le-of-eq, lt-of-lt-of-le, lt-irrefl}
+use lib.IntN.{ℤ}
+use lib.Dec.{T, leb, eqb, T-not}
+use lib.Ieee.{Float, nan, inf, fin, binary32, up, down, odd, units, round, ofFields, ofBits, toBits, fits, isNan, nanBits, ne, neg, sum, add, sub, lt}
+use lib.Ieee.Fits.{up-pos, down-pos, neg-fits}
 use lib.Ieee.Bits.{ofBits-toBits, nanBits-is, nanBits-above}
 use borrow.Author.Tests.{lt-ltb, le-ltb}
-use Rattle.numbers.specs.Words.{signOf}
+use Rattle.laws.specs.Dyadic.{add-value}
+use Rattle.laws.specs.Own.{zero-exp, round-own}
+use Rattle.numbers.specs.Words.{signOf, signed, absOf}
 use Rattle.numbers.specs.WordsLaws.{only-nan, nan-test}
+use Rattle.numbers.proofs.Integers.{zeroed, inf-above, none}
 
 -- ---- a test's outcome as a fact
 pub yes : {b : Bool} → b ≡ true → T b
@@ -60,3 +66,34 @@ bits-sign n h = fields-sign (leb 0x8000_0000 n) (n % 0x8000_0000 / 8388608) (n %
 
 pub sign-bit : (x : Float) → T (fits binary32 x) → T (not (isNan x)) → leb 0x8000_0000 (toBits binary32 x) ≡ signOf x
 sign-bit x F h = let e = ofBits-toBits binary32 x F in sym (bits-sign (toBits binary32 x) (subst (λ (v : Float). T (not (isNan v))) (sym e) h)) ∙ ap signOf e
+
+-- ---- the size: x, or 0 - x
+pub size-above : (x : Float) → T (lt zeroed x) → x ≡ absOf x
+unfolding absOf signed signOf lt
+size-above nan h = absurd h
+size-above (inf true) h = absurd h
+size-above (inf false) h = refl
+size-above (fin true m e) h = absurd h
+size-above (fin false m e) h = refl
+
+zero-plus : (m : ℕ) (e : ℤ) → T (fits binary32 (fin false m e)) → add binary32 zeroed (fin false m e) ≡ fin false m e
+zero-plus m e F =
+    let a = m * up e in
+    let d = down e in
+    add-value binary32 zeroed (fin false m e) false 0 1 a d (zero-lt-suc 0) (down-pos e) (refl, refl) (refl, refl)
+    ∙ ap (λ (z : ℕ). round binary32 false z (1 * d)) (ap (λ (z : ℕ). z + a * 1) (zero-mul d) ∙ zero-add (a * 1) ∙ mul-one a)
+    ∙ ap (λ (z : ℕ). round binary32 false a z) (one-mul d)
+    ∙ round-own binary32 false m e F
+
+minus-zero : sub binary32 zeroed zeroed ≡ zeroed
+unfolding sub add neg sum round units odd
+minus-zero = refl
+
+pub size-below : (x : Float) → T (fits binary32 x) → T (not (lt zeroed x)) → sub binary32 zeroed x ≡ absOf x
+unfolding absOf signed signOf neg sub add
+size-below nan F h = refl
+size-below (inf true) F h = refl
+size-below (inf false) F h = absurd (T-not (lt zeroed (inf false)) h inf-above)
+size-below (fin true m e) F h = zero-plus m e (neg-fits binary32 (fin true m e) F)
+size-below (fin false zero e) F h = subst (λ (d : ℤ). sub binary32 zeroed (fin false 0 d) ≡ fin false 0 d) (sym (zero-exp binary32 false e F)) minus-zero
+size-below (fin false (suc m) e) F h = absurd (lt-irrefl 0 (lt-of-lt-of-le (mul-pos (zero-lt-suc m) (up-pos e)) (le-of-eq (none (suc m) e h))))

@@ -82,11 +82,11 @@ above-u32 (fin false m e) h k = cap (m * up e / down e) (over m e k)
 nothing : (a z : ℕ) → z ≡ 0 → a * 1 ≤ z → a ≡ 0
 nothing a z p h = omega arith
 
-none : (m : ℕ) (e : ℤ) → T (not (lt zeroed (fin false m e))) → m * up e ≡ 0
+pub none : (m : ℕ) (e : ℤ) → T (not (lt zeroed (fin false m e))) → m * up e ≡ 0
 unfolding lt
 none m e h = nothing (m * up e) (0 * down e) (zero-mul (down e)) (nltb→le (0 * down e) (m * up e * 1) h)
 
-inf-above : T (lt zeroed (inf false))
+pub inf-above : T (lt zeroed (inf false))
 unfolding lt
 inf-above = tt
 

@@ -246,20 +246,20 @@ module _ (a : Float) (s : T (not (signOf a))) (h : T (lt a limit)) where
       (is-quot (r .num) (r .den) (r .n) (r .some) (le-trans (lt-values a (nearTo a) (r .num) (r .den) (r .n) 1 (r .some) (zero-lt-suc 0) (r .value) value .1 t) (le-of-eq (mul-one (r .num)))) (r .below))
 
 -- ---- the same as an integer
-cut : (a : Float) → T (not (signOf a)) → T (lt a limit) → (toUnsigned 32 a ≤ 8388608) × (wholeOf false a ≡ ofInt binary32 (pos (toUnsigned 32 a)))
+pub cut-small : (a : Float) → T (not (signOf a)) → T (lt a limit) → (toUnsigned 32 a ≤ 8388608) × (wholeOf false a ≡ ofInt binary32 (pos (toUnsigned 32 a)))
 unfolding signOf ofInt toUnsigned wholeOf
-cut nan s h = absurd (no-nan h)
-cut (inf true) s h = absurd s
-cut (inf false) s h = absurd (no-inf h)
-cut (fin true m e) s h = absurd s
-cut (fin false m e) s h = let u = uncapped (m * up e / down e) (div-lt-iff-lt-mul (down-pos e) .1 (under m e h)) in (u .0, ap (λ (z : ℕ). round binary32 false z 1) (u .1))
+cut-small nan s h = absurd (no-nan h)
+cut-small (inf true) s h = absurd s
+cut-small (inf false) s h = absurd (no-inf h)
+cut-small (fin true m e) s h = absurd s
+cut-small (fin false m e) s h = let u = uncapped (m * up e / down e) (div-lt-iff-lt-mul (down-pos e) .1 (under m e h)) in (u .0, ap (λ (z : ℕ). round binary32 false z 1) (u .1))
   where
     uncapped : (q : ℕ) → q < 8388608 → (min q 4294967295 ≤ 8388608) × (q ≡ min q 4294967295)
     uncapped q h = (omega arith, omega arith)
 
 pub as-unsigned : (a y : Float) → T (not (signOf a)) → T (lt a limit) → y ≡ wholeOf false a → T (inUnsigned binary32 32 y) × (toUnsigned 32 y ≡ toUnsigned 32 a)
 as-unsigned a y s h p =
-    let c = cut a s h in
+    let c = cut-small a s h in
     let n = toUnsigned 32 a in
     subst (λ (z : Float). T (inUnsigned binary32 32 z) × (toUnsigned 32 z ≡ n)) (sym (p ∙ c .1)) (unsigned-back binary32 32 n (small-exact n (lt-of-le-of-lt (c .0) (lit< tt))) (lt-of-le-of-lt (c .0) (lit< tt)))
 

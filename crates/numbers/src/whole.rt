@@ -54,6 +54,18 @@ pub fn from_u32(k: u32) -> f32
     std::num::nearest_u32_to_f32(k)
 }
 
+// Rust's `x as u32 as f32`.
+pub fn cut(x: f32) -> f32
+    ensures { λ r. ⌜ r ≡ ofInt binary32 (pos (toUnsigned 32 x)) ⌝ }
+{
+    if x > 0.0 {
+        if x < 8388608.0 {
+            return near(false, x);
+        }
+    }
+    from_u32(to_u32(x))
+}
+
 // a with the sign s, at most the largest i32 and at least the smallest.
 fn capped(s: bool, a: u32) -> i32
     ensures { λ r. ⌜ r ≡ cond s (negℤ (pos (min a 2147483648))) (pos (min a 2147483647)) ⌝ }

@@ -47,10 +47,14 @@ pub fn turned(s: bool, x: f32) -> f32
     if s { -x } else { x }
 }
 
+// 0 - x is x with its sign turned round, and +0 for both zeros.
 pub fn abs(x: f32) -> f32
     ensures { λ r. ⌜ r ≡ absOf x ⌝ }
 {
-    turned(is_negative(x), x)
+    if x > 0.0 {
+        return x;
+    }
+    0.0 - x
 }
 
 // The size of x with the sign of s.

@@ -4,7 +4,7 @@ ghost use mathlib.Core.Bool.{cond};
 ghost use Prim.Native.Nat.{_+_, _≤_};
 ghost use lib.Ieee.{nan, lt};
 ghost use Rattle.trig.specs.Trig.{infinity, boundedOf, quartersOf, reducedOf, curveOf, waveOf, sinOf, cosOf, atanNear, slopeOf, angleOf, atan2Of, asinNear, acosNear, arcSineOf, arcCosineOf, asinOf, acosOf};
-use numbers::whole::from_u32;
+use numbers::whole::cut;
 use numbers::whole::to_u32;
 use numbers::words::abs;
 use numbers::words::is_nan;
@@ -40,8 +40,9 @@ struct Turn {
 fn quarters(a: f32) -> Turn
     ensures { λ t. ⌜ t ≡ quartersOf a ⌝ }
 {
-    let k = to_u32(a * 0.636619747 + 0.5);
-    let f = from_u32(k);
+    let n = a * 0.636619747 + 0.5;
+    let f = cut(n);
+    let k = to_u32(n);
     let r = a - f * 1.57080078125 - f * -4.45451587e-6 - f * 6.07710063e-11;
     Turn {
         quarters: k,

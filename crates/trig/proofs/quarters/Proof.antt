@@ -5,15 +5,15 @@ use borrow.Author.Needs.{needs}
 use Rattle.trig.proofs.quarters.Statement.{statement}
 use Rattle.trig.proofs.quarters.Tie as tie
 
+cut-requires : tie.Need-cut-requires
+cut-requires c κs = search needs
+
 to-u32-requires : tie.Need-to-u32-requires
 to-u32-requires c κs = search needs
 
-from-u32-requires : tie.Need-from-u32-requires
-from-u32-requires c κs = search needs
-
 returns : tie.Need-returns
 unfolding quartersOf ofBits neg
-returns c = rw (c .from-u32 .ensures, c .before .to-u32 .ensures)
+returns c = rw (c .to-u32 .ensures, c .before .cut .ensures)
 
 pub quarters-spec : {M : Type 1} → statement M
-quarters-spec = tie.close (tie.spec to-u32-requires from-u32-requires returns)
+quarters-spec = tie.close (tie.spec cut-requires to-u32-requires returns)

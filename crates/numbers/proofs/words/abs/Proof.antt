@@ -1,18 +1,18 @@
 -- `numbers::words::abs` meets its contract. Assumes nothing.
-use Rattle.numbers.specs.Words.{absOf}
-use borrow.Author.Needs.{needs}
+use mathlib.Core.Path.{sym, subst}
+use lib.Dec.{T}
+use lib.Ieee.{ofBits}
+use Rattle.numbers.proofs.Bits.{yes, no, size-above, size-below}
 use Rattle.numbers.proofs.words.abs.Statement.{statement}
 use Rattle.numbers.proofs.words.abs.Tie as tie
 
-is-negative-requires : tie.Need-is-negative-requires
-is-negative-requires c κs = search needs
-
-turned-requires : tie.Need-turned-requires
-turned-requires c κs = search needs
-
 returns : tie.Need-returns
-unfolding absOf
-returns c = rw (c .turned .ensures, c .before .is-negative .ensures)
+unfolding ofBits
+returns c = size-above (c .before .args .x) (yes (c .if1 .taken))
+
+returns-2 : tie.Need-returns-2
+unfolding ofBits
+returns-2 c = size-below (c .before .args .x) (subst T (sym (c .before .good .0 .1)) tt) (no (c .if1 .left))
 
 pub abs-spec : {M : Type 1} → statement M
-abs-spec = tie.close (tie.spec is-negative-requires turned-requires returns)
+abs-spec = tie.close (tie.spec returns returns-2)
