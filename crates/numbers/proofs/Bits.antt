@@ -2,9 +2,9 @@
 use mathlib.Core.Path.{_≡_, refl, sym, ap, _∙_, subst}
 use mathlib.Core.Bool.{Bool, true, false, not, cond}
 use Prim.Native.Nat.{ℕ, zero, suc, _+_, _*_, _/_, _%_, _<_, _≤_}
-use native.Mathlib.Nat.{zero-lt-suc, zero-add, zero-mul, one-mul, mul-one, mul-pos, le-of-eq, lt-of-lt-of-le, lt-irrefl}
-use lib.IntN.{ℤ}
-use lib.Dec.{T, leb, eqb, T-not}
+use native.Mathlib.Nat.{zero-lt-suc, zero-add, zero-mul, one-mul, mul-one, mul-pos, le-of-eq, lt-of-le-of-lt}
+use lib.IntN.{ℤ, pos}
+use lib.Dec.{T, leb, eqb, lt→ltb, T-not}
 use lib.Ieee.{Float, nan, inf, fin, binary32, up, down, odd, units, round, ofFields, ofBits, toBits, fits, isNan, nanBits, ne, neg, sum, add, sub, lt}
 use lib.Ieee.Fits.{up-pos, down-pos, neg-fits}
 use lib.Ieee.Bits.{ofBits-toBits, nanBits-is, nanBits-above}
@@ -13,7 +13,6 @@ use Rattle.laws.specs.Dyadic.{add-value}
 use Rattle.laws.specs.Own.{zero-exp, round-own}
 use Rattle.numbers.specs.Words.{signOf, signed, absOf}
 use Rattle.numbers.specs.WordsLaws.{only-nan, nan-test}
-use Rattle.numbers.proofs.Integers.{zeroed, inf-above, none}
 
 -- ---- a test's outcome as a fact
 pub yes : {b : Bool} → b ≡ true → T b
@@ -67,6 +66,26 @@ bits-sign n h = fields-sign (leb 0x8000_0000 n) (n % 0x8000_0000 / 8388608) (n %
 pub sign-bit : (x : Float) → T (fits binary32 x) → T (not (isNan x)) → leb 0x8000_0000 (toBits binary32 x) ≡ signOf x
 sign-bit x F h = let e = ofBits-toBits binary32 x F in sym (bits-sign (toBits binary32 x) (subst (λ (v : Float). T (not (isNan v))) (sym e) h)) ∙ ap signOf e
 
+-- ---- above 0, and not
+abbrev pub zeroed : Float
+zeroed = fin false 0 (pos 0)
+
+pub positive : (x : Float) → T (lt zeroed x) → T (not (signOf x))
+unfolding signOf lt
+positive nan h = absurd h
+positive (inf true) h = absurd h
+positive (inf false) h = tt
+positive (fin true m e) h = absurd h
+positive (fin false m e) h = tt
+
+inf-above : T (lt zeroed (inf false))
+unfolding lt
+inf-above = tt
+
+fin-above : (m : ℕ) (e : ℤ) → T (lt zeroed (fin false (suc m) e))
+unfolding lt
+fin-above m e = lt→ltb (0 * down e) (suc m * up e * 1) (lt-of-le-of-lt (le-of-eq (zero-mul (down e))) (mul-pos (mul-pos (zero-lt-suc m) (up-pos e)) (zero-lt-suc 0)))
+
 -- ---- the size: x, or 0 - x
 pub size-above : (x : Float) → T (lt zeroed x) → x ≡ absOf x
 unfolding absOf signed signOf lt
@@ -96,4 +115,4 @@ size-below (inf true) F h = refl
 size-below (inf false) F h = absurd (T-not (lt zeroed (inf false)) h inf-above)
 size-below (fin true m e) F h = zero-plus m e (neg-fits binary32 (fin true m e) F)
 size-below (fin false zero e) F h = subst (λ (d : ℤ). sub binary32 zeroed (fin false 0 d) ≡ fin false 0 d) (sym (zero-exp binary32 false e F)) minus-zero
-size-below (fin false (suc m) e) F h = absurd (lt-irrefl 0 (lt-of-lt-of-le (mul-pos (zero-lt-suc m) (up-pos e)) (le-of-eq (none (suc m) e h))))
+size-below (fin false (suc m) e) F h = absurd (T-not (lt zeroed (fin false (suc m) e)) h (fin-above m e))

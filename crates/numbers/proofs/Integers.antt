@@ -1,8 +1,8 @@
 -- The conversions between f32 and the integers, where the code's tests lead. Assumes nothing.
-use mathlib.Core.Path.{_≡_, refl, sym, ap, _∙_, subst}
+use mathlib.Core.Path.{_≡_, refl, ap, _∙_, subst}
 use mathlib.Core.Bool.{true, false, not, cond}
 use Prim.Native.Nat.{ℕ, zero, suc, _+_, _-_, _*_, _/_, _≤_, _<_, min}
-use native.Mathlib.Nat.{lt-of-lt-of-le, lt-of-le-of-lt, zero-lt-suc, zero-mul, zero-div, mul-one, mul-pos, mul-le-mul-right, div-lt-iff-lt-mul, le-div-iff-mul-le}
+use native.Mathlib.Nat.{lt-of-lt-of-le, lt-of-le-of-lt, zero-lt-suc, mul-one, mul-pos, mul-le-mul-right, div-lt-iff-lt-mul, le-div-iff-mul-le}
 use native.Mathlib.Omega.{arith}
 use lib.IntN.{ℤ, pos, negsuc, negℤ, _-ℤ_, +ℤ-idl}
 use lib.Dec.{T, ltb→lt, lt→ltb, le→leb, nltb→le, lit≤, lit<, T-not}
@@ -16,8 +16,8 @@ use lib.Ieee.Casts.{toSigned-in}
 use Rattle.numbers.specs.Words.{signOf, signed, absOf}
 
 -- ---- Rust's `x as u32`, where its tests lead
-abbrev pub zeroed : Float
-zeroed = fin false 0 (pos 0)
+abbrev pub low : Float
+low = fin true 1 (pos 0)
 
 abbrev pub high : Float
 high = fin false 1 (pos 32)
@@ -27,19 +27,6 @@ pos-left a b h = omega arith
 
 pos-right : (a b : ℕ) → 0 < b → 0 < a + b
 pos-right a b h = omega arith
-
--- what is above 0 has a clear sign, and is above -1
-pub record Positive (x : Float) : Type 0 where
-  pub clear : T (not (signOf x))
-  pub above : T (lt (fin true 1 (pos 0)) x)
-
-pub positive : (x : Float) → T (lt zeroed x) → Positive x
-unfolding lt signOf
-positive nan h = absurd h
-positive (inf true) h = absurd h
-positive (inf false) h = record { clear = tt; above = tt }
-positive (fin true m e) h = absurd h
-positive (fin false m e) h = record { clear = tt; above = lt→ltb 0 (1 * down e + m * up e * 1) (pos-left (1 * down e) (m * up e * 1) (mul-pos (zero-lt-suc 0) (down-pos e))) }
 
 pub below-wide : (x : Float) → T (lt x high) → T (lt x (fin false 1 (pos 64)))
 unfolding lt
@@ -71,32 +58,41 @@ within-u32 (inf false) h = absurd h
 within-u32 (fin true m e) h = (refl, zero-lt-suc 4294967295)
 within-u32 (fin false m e) h = narrow (m * up e / down e) (under m e h)
 
-pub above-u32 : (x : Float) → T (lt zeroed x) → T (not (lt x high)) → 4294967295 ≡ toUnsigned 32 x
-unfolding toUnsigned lt
-above-u32 nan h k = absurd h
-above-u32 (inf true) h k = absurd h
+negative-below : (m : ℕ) (e : ℤ) → T (lt (fin true m e) high)
+unfolding lt
+negative-below m e = lt→ltb 0 (m * up e * 1 + 4294967296 * down e) (pos-right (m * up e * 1) (4294967296 * down e) (mul-pos (zero-lt-suc 4294967295) (down-pos e)))
+
+low-nan : T (lt low nan) → ⊥
+unfolding lt
+low-nan h = h
+
+low-inf : T (lt low (inf true)) → ⊥
+unfolding lt
+low-inf h = h
+
+pub above-u32 : (x : Float) → T (lt low x) → T (not (lt x high)) → 4294967295 ≡ toUnsigned 32 x
+unfolding toUnsigned
+above-u32 nan h k = absurd (low-nan h)
+above-u32 (inf true) h k = absurd (low-inf h)
 above-u32 (inf false) h k = refl
-above-u32 (fin true m e) h k = absurd h
+above-u32 (fin true m e) h k = absurd (T-not (lt (fin true m e) high) k (negative-below m e))
 above-u32 (fin false m e) h k = cap (m * up e / down e) (over m e k)
 
-nothing : (a z : ℕ) → z ≡ 0 → a * 1 ≤ z → a ≡ 0
-nothing a z p h = omega arith
-
-pub none : (m : ℕ) (e : ℤ) → T (not (lt zeroed (fin false m e))) → m * up e ≡ 0
+positive-above : (m : ℕ) (e : ℤ) → T (lt low (fin false m e))
 unfolding lt
-none m e h = nothing (m * up e) (0 * down e) (zero-mul (down e)) (nltb→le (0 * down e) (m * up e * 1) h)
+positive-above m e = lt→ltb 0 (1 * down e + m * up e * 1) (pos-left (1 * down e) (m * up e * 1) (mul-pos (zero-lt-suc 0) (down-pos e)))
 
-pub inf-above : T (lt zeroed (inf false))
+inf-above : T (lt low (inf false))
 unfolding lt
 inf-above = tt
 
-pub below-u32 : (x : Float) → T (not (lt zeroed x)) → 0 ≡ toUnsigned 32 x
+pub below-u32 : (x : Float) → T (not (lt low x)) → 0 ≡ toUnsigned 32 x
 unfolding toUnsigned
 below-u32 nan h = refl
 below-u32 (inf true) h = refl
-below-u32 (inf false) h = absurd (T-not (lt zeroed (inf false)) h inf-above)
+below-u32 (inf false) h = absurd (T-not (lt low (inf false)) h inf-above)
 below-u32 (fin true m e) h = refl
-below-u32 (fin false m e) h = ap (λ (z : ℕ). min z 4294967295) (sym (zero-div (down e)) ∙ ap (λ (z : ℕ). z / down e) (sym (none m e h)))
+below-u32 (fin false m e) h = absurd (T-not (lt low (fin false m e)) h (positive-above m e))
 
 -- ---- Rust's `k as f32` loses nothing
 pub small-exact : (k : ℕ) → k < 16777216 → T (inFloat binary32 (pos k))

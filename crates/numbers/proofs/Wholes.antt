@@ -19,6 +19,7 @@ use borrow.Author.Tests.{le-ltb}
 use Rattle.laws.specs.Dyadic.{add-value}
 use Rattle.numbers.specs.Words.{signOf, signed, absOf}
 use Rattle.numbers.specs.Whole.{quot, wholeOf}
+use Rattle.numbers.proofs.Bits.{zeroed, positive}
 use Rattle.numbers.proofs.Integers.{small-exact}
 use Rattle.numbers.specs.WholeLaws.{quot-down, quot-up, whole-large, whole-neg}
 
@@ -52,9 +53,9 @@ module _ (n d : ℕ) (D : 0 < d) (low : 8388608 * d ≤ n) (high : n < 16777216 
   round-closest =
       let p = 2 ^ 149 in
       let is : round binary32 false n d ≡ units binary32 false (closest n d) 149 =
-          round-is binary32 false n d
-          ∙ ap (λ (k : ℕ). units binary32 false (closest (n * p) (d * 2 ^ k)) k) dropped
-          ∙ ap (λ (w : ℕ). units binary32 false w 149) (closest-same (n * p) (d * p) n d (mul-pos D (pow-pos 149)) D (mul-assoc n p d ∙ ap (λ (z : ℕ). n * z) (mul-comm p d))) in
+      round-is binary32 false n d
+      ∙ ap (λ (k : ℕ). units binary32 false (closest (n * p) (d * 2 ^ k)) k) dropped
+      ∙ ap (λ (w : ℕ). units binary32 false w 149) (closest-same (n * p) (d * p) n d (mul-pos D (pow-pos 149)) D (mul-assoc n p d ∙ ap (λ (z : ℕ). n * z) (mul-comm p d))) in
       per-one (round binary32 false n d) (closest n d) p (pow-pos 149)
       (subst (λ (x : Float). HasValue x false (closest n d * p) p) (sym is) (units-val binary32 false (closest n d) 149 (room (closest n d) p closest-small (pow-pos 149))))
 
@@ -94,8 +95,8 @@ sub-whole (fin false m e) (fin false n g) k j v w =
     let b = n * up g * down e in
     let c = down e * down g in
     let t = taken a b c k j
-        (ap (λ (z : ℕ). z * down g) (sym (mul-one (m * up e)) ∙ v .1) ∙ mul-assoc (k + j) (down e) (down g))
-        (ap (λ (z : ℕ). z * down e) (sym (mul-one (n * up g)) ∙ w .1) ∙ mul-right-comm j (down g) (down e) ∙ mul-assoc j (down e) (down g)) in
+    (ap (λ (z : ℕ). z * down g) (sym (mul-one (m * up e)) ∙ v .1) ∙ mul-assoc (k + j) (down e) (down g))
+    (ap (λ (z : ℕ). z * down e) (sym (mul-one (n * up g)) ∙ w .1) ∙ mul-right-comm j (down g) (down e) ∙ mul-assoc j (down e) (down g)) in
     ap (λ (z : Bool). cond z (round binary32 true (b - a) c) (round binary32 false (a - b) c)) (le-ltb a b (t .0))
     ∙ round-same binary32 false (a - b) c k 1 (mul-pos (down-pos e) (down-pos g)) (zero-lt-suc 0) (mul-one (a - b) ∙ t .1)
 
@@ -161,7 +162,7 @@ near-fin m e h =
     let n = w - 8388608 in
     let q : n + 8388608 ≡ w = sub-add-cancel (closest-large N (d * 1) (c .pos) (c .low) (c .high)) in
     let s = subst (λ (x : Float). HasValue x false (n + 8388608) 1) (sym (add-value binary32 (fin false m e) limit false a d 8388608 1 (down-pos e) (zero-lt-suc 0) (refl, refl) (refl, refl)))
-        (subst (λ (z : ℕ). HasValue (round binary32 false N (d * 1)) false z 1) (sym q) (round-closest N (d * 1) (c .pos) (c .low) (c .high))) in
+    (subst (λ (z : ℕ). HasValue (round binary32 false N (d * 1)) false z 1) (sym q) (round-closest N (d * 1) (c .pos) (c .low) (c .high))) in
     let b = back a d n (subst (λ (z : ℕ). z * (d * 1) < N + d * 1) (sym q) (above N (d * 1) (c .pos))) (subst (λ (z : ℕ). N < (z + 1) * (d * 1)) (sym q) (below N (d * 1) (c .pos))) in
     record {
       num = a;
@@ -246,22 +247,29 @@ module _ (a : Float) (s : T (not (signOf a))) (h : T (lt a limit)) where
       (is-quot (r .num) (r .den) (r .n) (r .some) (le-trans (lt-values a (nearTo a) (r .num) (r .den) (r .n) 1 (r .some) (zero-lt-suc 0) (r .value) value .1 t) (le-of-eq (mul-one (r .num)))) (r .below))
 
 -- ---- the same as an integer
-pub cut-small : (a : Float) → T (not (signOf a)) → T (lt a limit) → (toUnsigned 32 a ≤ 8388608) × (wholeOf false a ≡ ofInt binary32 (pos (toUnsigned 32 a)))
+cut : (a : Float) → T (not (signOf a)) → T (lt a limit) → (toUnsigned 32 a ≤ 8388608) × (wholeOf false a ≡ ofInt binary32 (pos (toUnsigned 32 a)))
 unfolding signOf ofInt toUnsigned wholeOf
-cut-small nan s h = absurd (no-nan h)
-cut-small (inf true) s h = absurd s
-cut-small (inf false) s h = absurd (no-inf h)
-cut-small (fin true m e) s h = absurd s
-cut-small (fin false m e) s h = let u = uncapped (m * up e / down e) (div-lt-iff-lt-mul (down-pos e) .1 (under m e h)) in (u .0, ap (λ (z : ℕ). round binary32 false z 1) (u .1))
+cut nan s h = absurd (no-nan h)
+cut (inf true) s h = absurd s
+cut (inf false) s h = absurd (no-inf h)
+cut (fin true m e) s h = absurd s
+cut (fin false m e) s h = let u = uncapped (m * up e / down e) (div-lt-iff-lt-mul (down-pos e) .1 (under m e h)) in (u .0, ap (λ (z : ℕ). round binary32 false z 1) (u .1))
   where
     uncapped : (q : ℕ) → q < 8388608 → (min q 4294967295 ≤ 8388608) × (q ≡ min q 4294967295)
     uncapped q h = (omega arith, omega arith)
 
-pub as-unsigned : (a y : Float) → T (not (signOf a)) → T (lt a limit) → y ≡ wholeOf false a → T (inUnsigned binary32 32 y) × (toUnsigned 32 y ≡ toUnsigned 32 a)
-as-unsigned a y s h p =
-    let c = cut-small a s h in
+pub record Cast (a y : Float) : Type 0 where
+  pub whole : T (inUnsigned binary32 32 y)
+  pub count : toUnsigned 32 y ≡ toUnsigned 32 a
+  pub value : y ≡ ofInt binary32 (pos (toUnsigned 32 a))
+
+pub as-unsigned : (a y : Float) → T (lt zeroed a) → T (lt a limit) → y ≡ wholeOf false a → Cast a y
+as-unsigned a y l h p =
     let n = toUnsigned 32 a in
-    subst (λ (z : Float). T (inUnsigned binary32 32 z) × (toUnsigned 32 z ≡ n)) (sym (p ∙ c .1)) (unsigned-back binary32 32 n (small-exact n (lt-of-le-of-lt (c .0) (lit< tt))) (lt-of-le-of-lt (c .0) (lit< tt)))
+    let c = cut a (positive a l) h in
+    let e : y ≡ ofInt binary32 (pos n) = p ∙ c .1 in
+    let b = unsigned-back binary32 32 n (small-exact n (lt-of-le-of-lt (c .0) (lit< tt))) (lt-of-le-of-lt (c .0) (lit< tt)) in
+    record { whole = subst (λ (z : Float). T (inUnsigned binary32 32 z)) (sym e) (b .0); count = ap (toUnsigned 32) e ∙ b .1; value = e }
 
 -- ---- the sign
 pub with-sign : (u : Bool) (x : Float) → signed (signOf x) (wholeOf u (absOf x)) ≡ wholeOf u x

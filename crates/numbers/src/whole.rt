@@ -28,14 +28,11 @@ fn near(up: bool, a: f32) -> f32
     n
 }
 
-// Rust's `x as u32`.
-pub fn to_u32(x: f32) -> u32
+// Rust's `x as u32`, for large x too.
+fn truncated(x: f32) -> u32
     ensures { λ r. ⌜ r ≡ toUnsigned 32 x ⌝ }
 {
-    if x > 0.0 {
-        if x < 8388608.0 {
-            return near(false, x) as u32;
-        }
+    if x > -1.0 {
         if x < 4294967296.0 {
             return std::num::truncating_f32_to_u64(x) as u32;
         }
@@ -54,16 +51,38 @@ pub fn from_u32(k: u32) -> f32
     std::num::nearest_u32_to_f32(k)
 }
 
-// Rust's `x as u32 as f32`.
-pub fn cut(x: f32) -> f32
-    ensures { λ r. ⌜ r ≡ ofInt binary32 (pos (toUnsigned 32 x)) ⌝ }
+// A whole number of the u32, and the float nearest to it.
+pub struct Part {
+    pub count: u32,
+    pub value: f32,
+}
+
+// Rust's `x as u32`, and that as f32: at once, since the float comes first.
+pub fn whole_part(x: f32) -> Part
+    ensures { λ r. ⌜ (r .count ≡ toUnsigned 32 x) × (r .value ≡ ofInt binary32 (pos (toUnsigned 32 x))) ⌝ }
 {
     if x > 0.0 {
         if x < 8388608.0 {
-            return near(false, x);
+            let f = near(false, x);
+            return Part {
+                count: f as u32,
+                value: f,
+            };
         }
     }
-    from_u32(to_u32(x))
+    let k = truncated(x);
+    Part {
+        count: k,
+        value: from_u32(k),
+    }
+}
+
+// Rust's `x as u32`.
+pub fn to_u32(x: f32) -> u32
+    ensures { λ r. ⌜ r ≡ toUnsigned 32 x ⌝ }
+{
+    let part = whole_part(x);
+    part.count
 }
 
 // a with the sign s, at most the largest i32 and at least the smallest.

@@ -4,8 +4,7 @@ ghost use mathlib.Core.Bool.{cond};
 ghost use Prim.Native.Nat.{_+_, _≤_};
 ghost use lib.Ieee.{nan, lt};
 ghost use Rattle.trig.specs.Trig.{infinity, boundedOf, quartersOf, reducedOf, curveOf, waveOf, sinOf, cosOf, atanNear, slopeOf, angleOf, atan2Of, asinNear, acosNear, arcSineOf, arcCosineOf, asinOf, acosOf};
-use numbers::whole::cut;
-use numbers::whole::to_u32;
+use numbers::whole::whole_part;
 use numbers::words::abs;
 use numbers::words::is_nan;
 use numbers::words::is_negative;
@@ -40,12 +39,11 @@ struct Turn {
 fn quarters(a: f32) -> Turn
     ensures { λ t. ⌜ t ≡ quartersOf a ⌝ }
 {
-    let n = a * 0.636619747 + 0.5;
-    let f = cut(n);
-    let k = to_u32(n);
+    let k = whole_part(a * 0.636619747 + 0.5);
+    let f = k.value;
     let r = a - f * 1.57080078125 - f * -4.45451587e-6 - f * 6.07710063e-11;
     Turn {
-        quarters: k,
+        quarters: k.count,
         rest: r,
     }
 }
@@ -104,7 +102,8 @@ fn sine(on: u32, a: f32) -> f32
 pub fn sin(x: f32) -> f32
     ensures { λ r. ⌜ r ≡ sinOf x ⌝ }
 {
-    turned(is_negative(x), sine(0, abs(x)))
+    let a = abs(x);
+    turned(is_negative(x), sine(0, a))
 }
 
 // cos is sin a quarter turn on.

@@ -5,15 +5,12 @@ use borrow.Author.Needs.{needs}
 use Rattle.trig.proofs.quarters.Statement.{statement}
 use Rattle.trig.proofs.quarters.Tie as tie
 
-cut-requires : tie.Need-cut-requires
-cut-requires c κs = search needs
-
-to-u32-requires : tie.Need-to-u32-requires
-to-u32-requires c κs = search needs
+whole-part-requires : tie.Need-whole-part-requires
+whole-part-requires c κs = search needs
 
 returns : tie.Need-returns
 unfolding quartersOf ofBits neg
-returns c = rw (c .to-u32 .ensures, c .before .cut .ensures)
+returns c = rw (c .whole-part .ensures .0, c .whole-part .ensures .1)
 
 pub quarters-spec : {M : Type 1} → statement M
-quarters-spec = tie.close (tie.spec cut-requires to-u32-requires returns)
+quarters-spec = tie.close (tie.spec whole-part-requires returns)
