@@ -1,4 +1,5 @@
 pub mod Bits
 pub mod Halves
 pub mod Integers
+pub mod Nearest
 pub mod Wholes

@@ -5,9 +5,10 @@ use Prim.Native.Nat.{ℕ}
 use lib.IntN.{ℤ, pos}
 use lib.Ieee.{Float, binary32, ofBits, toBits, isNan, toSigned, toUnsigned, ofInt}
 use Rattle.laws.specs.Only.{Only, determined}
+use Rattle.numbers.specs.declared.whole.Part.{Part}
 use Rattle.numbers.specs.Words.{signOf, signed, absOf, copysignOf, halfOf}
 use Rattle.numbers.specs.Select.{minOf, maxOf, clampOf}
-use Rattle.numbers.specs.Whole.{floorOf, ceilOf}
+use Rattle.numbers.specs.Whole.{floorOf, ceilOf, partOf}
 
 pub float-of-only : (w : ℕ) → Only (λ (r : Float). r ≡ ofBits binary32 w)
 float-of-only w = determined (ofBits binary32 w)
@@ -53,6 +54,9 @@ to-i32-only x = determined (toSigned 31 x)
 
 pub to-u32-only : (x : Float) → Only (λ (r : ℕ). r ≡ toUnsigned 32 x)
 to-u32-only x = determined (toUnsigned 32 x)
+
+pub whole-part-only : (x : Float) → Only (λ (r : Part). r ≡ partOf x)
+whole-part-only x = determined (partOf x)
 
 pub from-u32-only : (k : ℕ) → Only (λ (r : Float). r ≡ ofInt binary32 (pos k))
 from-u32-only k = determined (ofInt binary32 (pos k))

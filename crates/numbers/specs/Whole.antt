@@ -2,7 +2,8 @@
 use mathlib.Core.Bool.{Bool, true, not, cond}
 use Prim.Native.Nat.{ℕ, _+_, _-_, _*_, _/_, _^_, min}
 use lib.IntN.{ℤ, pos, negℤ}
-use lib.Ieee.{Float, nan, inf, fin, binary32, up, down, round}
+use lib.Ieee.{Float, nan, inf, fin, binary32, up, down, round, ofInt, toUnsigned}
+use Rattle.numbers.specs.declared.whole.Part.{Part}
 use Rattle.numbers.specs.Words.{signOf}
 
 -- a / b as a whole number, rounded up where u is true, else down; b is above 0
@@ -20,6 +21,10 @@ floorOf x = wholeOf (signOf x) x
 
 unfoldable pub ceilOf : Float → Float
 ceilOf x = wholeOf (not (signOf x)) x
+
+-- x truncated to 32 bits, and the float of that
+unfoldable pub partOf : Float → Part
+partOf x = record { count = toUnsigned 32 x; value = ofInt binary32 (pos (toUnsigned 32 x)) }
 
 -- ---- the same as integers, brought to the nearest end of the range: of h bits and a sign, or of w bits. A NaN's is 0
 unfoldable pub wholeSigned : Bool → ℕ → Float → ℤ

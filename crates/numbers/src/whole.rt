@@ -6,7 +6,7 @@ ghost use lib.IntN.{pos, negℤ};
 ghost use lib.Dec.{T};
 ghost use lib.Ieee.{fin, binary32, lt, toSigned, toUnsigned, ofInt};
 ghost use Rattle.numbers.specs.Words.{signOf};
-ghost use Rattle.numbers.specs.Whole.{wholeOf, floorOf, ceilOf};
+ghost use Rattle.numbers.specs.Whole.{wholeOf, floorOf, ceilOf, partOf};
 use crate::words;
 
 // a, of clear sign and below 2^23, as a whole number: rounded up or down. The floats from 2^23 to 2^24 are the whole numbers
@@ -59,7 +59,7 @@ pub struct Part {
 
 // Rust's `x as u32`, and that as f32: at once, since the float comes first.
 pub fn whole_part(x: f32) -> Part
-    ensures { λ r. ⌜ (r .count ≡ toUnsigned 32 x) × (r .value ≡ ofInt binary32 (pos (toUnsigned 32 x))) ⌝ }
+    ensures { λ r. ⌜ r ≡ partOf x ⌝ }
 {
     if x > 0.0 {
         if x < 8388608.0 {

@@ -1,7 +1,6 @@
 -- `trig::sin` meets its contract. Assumes nothing.
 use mathlib.Core.Path.{_≡_, refl}
 use mathlib.Core.Bool.{Bool, true, false, cond}
-use Prim.Native.Nat.{_+_}
 use native.Mathlib.Nat.{add-zero}
 use lib.Ieee.{Float, nan, neg}
 use Rattle.numbers.specs.Words.{signed}

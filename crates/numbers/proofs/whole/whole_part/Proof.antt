@@ -1,9 +1,7 @@
 -- `numbers::whole::whole_part` meets its contract. Assumes nothing.
 use borrow.Author.Needs.{needs}
-use mathlib.Core.Path.{ap, _∙_}
-use Prim.Native.Nat.{ℕ}
-use lib.IntN.{pos}
-use lib.Ieee.{binary32, ofBits, ofInt}
+use lib.Ieee.{ofBits}
+use Rattle.numbers.specs.Whole.{partOf}
 use Rattle.numbers.proofs.Bits.{yes, positive}
 use Rattle.numbers.proofs.Wholes.{as-unsigned}
 use Rattle.numbers.proofs.whole.whole_part.Statement.{statement}
@@ -18,10 +16,10 @@ unfolding ofBits
 float-to-int-t6 c = as-unsigned (c .before .before .before .before .args .x) (c .before .near .result) (yes (c .before .before .before .if1 .taken)) (yes (c .before .before .if2 .taken)) (c .before .near .ensures) .whole
 
 returns : tie.Need-returns
-unfolding ofBits
+unfolding ofBits partOf
 returns c =
     let a = as-unsigned (c .before .before .before .before .args .x) (c .before .near .result) (yes (c .before .before .before .if1 .taken)) (yes (c .before .before .if2 .taken)) (c .before .near .ensures) in
-    (a .count, a .value)
+    rw (a .count, a .value)
 
 truncated-requires : tie.Need-truncated-requires
 truncated-requires c κs = search needs
@@ -30,7 +28,8 @@ from-u32-requires : tie.Need-from-u32-requires
 from-u32-requires c κs = search needs
 
 returns-2 : tie.Need-returns-2
-returns-2 c = (c .before .truncated .ensures, c .from-u32 .ensures ∙ ap (λ (k : ℕ). ofInt binary32 (pos k)) (c .before .truncated .ensures))
+unfolding partOf
+returns-2 c = rw (c .from-u32 .ensures, c .before .truncated .ensures)
 
 pub whole-part-spec : {M : Type 1} → statement M
 whole-part-spec =
