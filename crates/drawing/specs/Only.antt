@@ -3,13 +3,14 @@ use Prim.Native.Nat.{ℕ}
 use mathlib.Core.Path.{_≡_, ap, sym, _∙_}
 use mathlib.Core.Bool.{Bool}
 use mathlib.Core.List.{List, []}
+use lib.IntN.{ℤ}
 use lib.Ieee.{Float}
 use Rattle.laws.specs.Only.{Only, determined}
 use Rattle.spiral.specs.declared.util.Vec2.{Vec2}
 use Rattle.drawing.specs.declared.line.IntBbox.{IntBbox}
 use Rattle.drawing.specs.declared.line.Drawn.{Drawn}
 use Rattle.drawing.specs.declared.cubic.CubicAt.{CubicAt}
-use Rattle.drawing.specs.Sheet.{Event, Sheet, emptyBox, boxWith, isStopped, Drew}
+use Rattle.drawing.specs.Sheet.{Event, Sheet, lowerOf, higherOf, emptyBox, boxWith, isStopped, Drew}
 use Rattle.drawing.specs.Cubic.{cubicAt, startTangent, endTangent}
 
 -- every function that draws into the lent words
@@ -22,6 +23,12 @@ stop-only d es r s h k = ap (λ (t : Sheet). t .drawn) ((h 0 []) .is ∙ sym ((k
 
 pub stopped-only : (d : Drawn) → Only (λ (r : Bool). r ≡ isStopped d)
 stopped-only d = determined (isStopped d)
+
+pub lower-only : (a b : ℤ) → Only (λ (r : ℤ). r ≡ lowerOf a b)
+lower-only a b = determined (lowerOf a b)
+
+pub higher-only : (a b : ℤ) → Only (λ (r : ℤ). r ≡ higherOf a b)
+higher-only a b = determined (higherOf a b)
 
 pub empty-only : Only (λ (r : IntBbox). r ≡ emptyBox)
 empty-only = determined emptyBox

@@ -29,13 +29,13 @@ pub enum Drawn {
     NoJoin(u32),
 }
 
-fn lower(a: i32, b: i32) -> i32
+pub fn lower(a: i32, b: i32) -> i32
     ensures { λ r. ⌜ r ≡ lowerOf a b ⌝ }
 {
     if b < a { b } else { a }
 }
 
-fn higher(a: i32, b: i32) -> i32
+pub fn higher(a: i32, b: i32) -> i32
     ensures { λ r. ⌜ r ≡ higherOf a b ⌝ }
 {
     if a < b { b } else { a }

@@ -1,0 +1,5 @@
+pub mod Bounds
+pub mod Again
+pub mod Stops
+pub mod Front
+pub mod Steps

@@ -1,0 +1,23 @@
+-- `flatten::step::step` meets its contract. Assumes nothing.
+use borrow.Author.Needs.{needs}
+use Rattle.flatten.specs.Step.{stepFrom, stepOf}
+use Rattle.flatten.proofs.Steps.{went, fewer, none-left}
+use Rattle.flatten.proofs.step.step.Statement.{statement}
+use Rattle.flatten.proofs.step.step.Tie as tie
+
+returns : tie.Need-returns
+unfolding stepOf stepFrom
+returns c =
+    (rw (← (c .before .before .before .before .before .before .before .before .read-head .ensures), c .before .before .before .before .before .before .head .given .1, c .turn-of .ensures) (went _ _ _ _ _ (c .before .before .before .draw-tag .ensures)), fewer _ _ _ _ (c .turn-of .ensures))
+
+returns-2 : tie.Need-returns-2
+unfolding stepOf stepFrom
+returns-2 c =
+    (rw (← (c .before .before .before .before .read-head .ensures), c .before .before .stop .given .1, c .refused-at .ensures), none-left _ _ _ (c .refused-at .ensures))
+
+pub step-spec : {M : Type 1} → statement M
+step-spec =
+    tie.close
+    (tie.spec
+    (λ c κs. tt) (λ c. search needs) (λ c κs. tt) (λ c κs. tt) (λ c. search needs) (λ c κs. tt) (λ c. search needs)
+    returns returns-2)

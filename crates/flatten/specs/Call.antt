@@ -1,0 +1,118 @@
+-- The whole call: one tag after the other, until none is left or one is refused. Definitions only.
+use Prim.Native.Nat.{ℕ, zero, suc, _*_, _-_}
+use mathlib.Core.Bool.{Bool, true, false, _||_, cond}
+use mathlib.Core.List.{List, [], _∷_, _++_}
+use lib.Dec.{ltb}
+use lib.ListN.{length, replicate}
+use Rattle.drawing.specs.Sheet.{emptyBox}
+use Rattle.flatten.specs.Boxes.{freshBox, changedAt}
+use Rattle.flatten.specs.Step.{Stepped, stepOf}
+use Rattle.flatten.specs.declared.boxes.PathBox.{PathBox}
+use Rattle.flatten.specs.declared.call.Layout.{Layout}
+use Rattle.flatten.specs.declared.call.Turn.{Turn}
+use Rattle.flatten.specs.declared.call.Stop.{Stop}
+use Rattle.flatten.specs.declared.call.Stop.the-variants as stop
+use Rattle.flatten.specs.declared.call.Answer.{Answer}
+use Rattle.flatten.specs.declared.call.Told.{Told}
+use Rattle.flatten.specs.declared.call.Answer.the-variants.{Lines, BadBase, Outside, NoPrefix, NoBox, NotNumber, NoRoom, NoJoin}
+
+-- ---- where the call starts
+
+unfoldable pub firstTurn : ℕ → Stop → Turn
+firstTurn left s =
+    record { left = left; tag = 0; count = 0; stop = s; at = 0; change = record { mark = false; «draw_flags» = 0; «trans_ix» = 0; bbox = emptyBox } }
+
+-- whether a base lies past the scene's end; else 256 tags for each workgroup are left
+abbrev pub startAt : Bool → Layout → Turn
+startAt true layout = firstTurn 0 stop.BadBase
+startAt false layout = firstTurn (layout .«n_wg» * 256) stop.Going
+
+unfoldable pub startOf : Layout → ℕ → Turn
+startOf layout n = startAt (ltb n (layout .«tag_base») || ltb n (layout .«data_base»)) layout
+
+-- ---- one tag after the other
+
+pub record State : Type 0 where
+  pub turn : Turn
+  pub boxes : List PathBox
+  pub lines : List ℕ
+
+-- what a tag did, with its change of one box
+unfoldable pub taken : List PathBox → Stepped → State
+taken ps o = record { turn = o .turn; boxes = changedAt ps (o .turn .at) (o .turn .change); lines = o .lines }
+
+-- where no tag is left, as behind a refusal, the state stays
+unfoldable pub onward : Bool → Layout → List ℕ → List ℕ → State → State
+onward true layout scene prefixes s = taken (s .boxes) (stepOf layout scene prefixes (s .lines) (length (s .boxes)) (s .turn))
+onward false layout scene prefixes s = s
+
+abbrev pub next : Layout → List ℕ → List ℕ → State → State
+next layout scene prefixes s = onward (ltb 0 (s .turn .left)) layout scene prefixes s
+
+unfoldable pub after : ℕ → Layout → List ℕ → List ℕ → State → State
+after zero layout scene prefixes s = s
+after (suc n) layout scene prefixes s = next layout scene prefixes (after n layout scene prefixes s)
+
+-- ---- the answer
+
+abbrev pub answerFor : Stop → ℕ → ℕ → Answer
+answerFor stop.Going tag count = Lines count
+answerFor stop.BadBase tag count = BadBase
+answerFor stop.Outside tag count = Outside tag count
+answerFor stop.NoPrefix tag count = NoPrefix tag count
+answerFor stop.NoBox tag count = NoBox tag count
+answerFor stop.NotNumber tag count = NotNumber tag count
+answerFor stop.NoRoom tag count = NoRoom tag count
+answerFor stop.NoJoin tag count = NoJoin tag count
+
+unfoldable pub answerOf : Turn → Answer
+answerOf t = answerFor (t .stop) (t .tag) (t .count)
+
+-- what an answer says: its number, the tag in turn, and how many lines are stored
+abbrev pub said : ℕ → ℕ → ℕ → Told
+said number tag count = record { number = number; tag = tag; count = count }
+
+unfoldable pub toldOf : Answer → Told
+toldOf (Lines count) = said 0 0 count
+toldOf BadBase = said 1 0 0
+toldOf (Outside tag count) = said 2 tag count
+toldOf (NoPrefix tag count) = said 3 tag count
+toldOf (NoBox tag count) = said 4 tag count
+toldOf (NotNumber tag count) = said 5 tag count
+toldOf (NoRoom tag count) = said 6 tag count
+toldOf (NoJoin tag count) = said 7 tag count
+
+-- two words take the tag and the count, where there are two
+unfoldable pub reportOf : Told → List ℕ → List ℕ
+reportOf told [] = []
+reportOf told (a ∷ []) = a ∷ []
+reportOf told (a ∷ b ∷ ws) = told .tag ∷ told .count ∷ ws
+
+-- ---- the call
+
+pub record Outcome : Type 0 where
+  pub answer : Answer
+  pub boxes : List PathBox
+  pub lines : List ℕ
+
+abbrev pub outcome : Answer → List PathBox → List ℕ → Outcome
+outcome r ps ws = record { answer = r; boxes = ps; lines = ws }
+
+abbrev pub outcomeOf : State → Outcome
+outcomeOf s = outcome (answerOf (s .turn)) (s .boxes) (s .lines)
+
+unfoldable pub callOf : Layout → List ℕ → List ℕ → List PathBox → List ℕ → Outcome
+callOf layout scene prefixes ps ws =
+    outcomeOf (after (layout .«n_wg» * 256) layout scene prefixes (record { turn = startOf layout (length scene); boxes = ps; lines = ws }))
+
+-- ---- the call with boxes of its own
+
+unfoldable pub fewOf : ℕ → ℕ
+fewOf n = cond (ltb 16 n) 16 n
+
+abbrev pub filled : ℕ → Outcome → Outcome
+filled k o = outcome (o .answer) (o .boxes ++ replicate k freshBox) (o .lines)
+
+-- at most 16 boxes, each a fresh one, are lent; behind them stand the others of the 16
+unfoldable pub sixteenOf : Layout → List ℕ → List ℕ → List ℕ → ℕ → Outcome
+sixteenOf layout scene prefixes ws n = filled (16 - fewOf n) (callOf layout scene prefixes (replicate (fewOf n) freshBox) ws)

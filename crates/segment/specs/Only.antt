@@ -1,0 +1,21 @@
+-- No second answer satisfies the contract of a public function. Assumes nothing.
+use Prim.Native.Nat.{ℕ}
+use mathlib.Core.Path.{_≡_}
+use mathlib.Core.List.{List}
+use lib.Ieee.{Float}
+use Rattle.laws.specs.Only.{Only, determined}
+use Rattle.spiral.specs.declared.util.Vec2.{Vec2}
+use Rattle.drawing.specs.Sheet.{Sheet, Drew}
+use Rattle.drawing.specs.Only.{drew-only}
+use Rattle.drawing.specs.declared.line.Drawn.{Drawn}
+use Rattle.segment.specs.Segment.{neighborOf, shapeEvents}
+use Rattle.segment.specs.declared.Neighbor.{Neighbor}
+use Rattle.segment.specs.declared.Shape.{Shape}
+
+pub neighbor-only : (tag : ℕ) (ps : List Vec2) → Only (λ (r : Neighbor). r ≡ neighborOf tag ps)
+neighbor-only tag ps = determined (neighborOf tag ps)
+
+-- nor other words at the end
+pub draw-shape-only : (path : ℕ) (ws : List ℕ) (d : Drawn) (s : Shape) (flags : ℕ) (z : List Float) (ps : List Vec2)
+    → Only (λ (r : Sheet). Drew path ws d (shapeEvents s flags z ps) (r .words) (r .drawn))
+draw-shape-only path ws d s flags z ps = drew-only path ws d (shapeEvents s flags z ps)
