@@ -9,6 +9,7 @@ unsafe extern "C" {
     safe fn hinth_cos(x: f32) -> f32;
     safe fn hinth_atan2(y: f32, x: f32) -> f32;
     safe fn hinth_asin(x: f32) -> f32;
+    safe fn hinth_acos(x: f32) -> f32;
 }
 
 pub trait Ours: Sized {
@@ -20,7 +21,9 @@ pub trait Ours: Sized {
     fn our_sin(self) -> f32;
     fn our_cos(self) -> f32;
     fn our_atan2(self, other: f32) -> f32;
+    fn our_sin_cos(self) -> (f32, f32);
     fn our_asin(self) -> f32;
+    fn our_acos(self) -> f32;
 }
 
 impl Ours for f32 {
@@ -61,7 +64,15 @@ impl Ours for f32 {
         hinth_atan2(self, other)
     }
 
+    fn our_sin_cos(self) -> (f32, f32) {
+        (hinth_sin(self), hinth_cos(self))
+    }
+
     fn our_asin(self) -> f32 {
         hinth_asin(self)
+    }
+
+    fn our_acos(self) -> f32 {
+        hinth_acos(self)
     }
 }

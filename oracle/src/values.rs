@@ -29,7 +29,11 @@ pub struct Values(u64);
 
 impl Values {
     pub fn new() -> Self {
-        Self(1)
+        Self::from(1)
+    }
+
+    pub fn from(seed: u64) -> Self {
+        Self(seed)
     }
 
     /// SplitMix64.
@@ -45,16 +49,24 @@ impl Values {
         self.next() % n
     }
 
+    pub fn word(&mut self) -> u32 {
+        self.next() as u32
+    }
+
     /// From -most to most, in steps of most / 4096.
     pub fn within(&mut self, most: f32) -> f32 {
         (self.below(8193) as f32 / 4096. - 1.) * most
     }
 
+    pub fn corner(&mut self) -> f32 {
+        f32::from_bits(CORNERS[self.below(CORNERS.len() as u64) as usize])
+    }
+
     /// An ordinary value, a corner, or any bits.
     pub fn any(&mut self) -> f32 {
         match self.below(4) {
-            0 => f32::from_bits(CORNERS[self.below(CORNERS.len() as u64) as usize]),
-            1 => f32::from_bits(self.next() as u32),
+            0 => self.corner(),
+            1 => f32::from_bits(self.word()),
             _ => self.within(8.),
         }
     }

@@ -1,0 +1,120 @@
+// Replays the list on standard input, which docs/ORACLE.md describes: a line is a call, the words
+// lent to it, its arguments, and what it answers and stores, as words of eight hex digits. Writes
+// each line whose answer is another here, and last how many lines there were and how many differ.
+ghost use Prim.Native.Nat.{_<_};
+
+mod calls;
+mod vector;
+
+use drawing::line::Drawn;
+use drawing::line::IntBbox;
+use vector::word;
+
+// The bytes of a line, its end with them.
+const LINE: usize = 351;
+
+// More lines than any list has.
+const MOST: u64 = 1000000;
+
+// What every lent word is at first.
+const FILL: u32 = 0xa5a5a5a5;
+
+fn fill(lines: &mut [u32]) {
+    let mut i: usize = 0;
+    while i < lines.len() {
+        lines[i] = FILL;
+        i += 1;
+    }
+}
+
+// FNV-1a, 32 bits, taken a word at a time.
+fn hash(lines: &[u32]) -> u32 {
+    let mut h: u32 = 0x811c9dc5;
+    let mut i: usize = 0;
+    while i < lines.len() {
+        h = mixed(h ^ lines[i]);
+        i += 1;
+    }
+    h
+}
+
+fn mixed(h: u32) -> u32 {
+    ((h as u64) * 16777619 % 4294967296) as u32
+}
+
+fn whole(line: &[u8; 351], k: usize) -> i32
+    requires { ⌜ k < 39 ⌝ }
+{
+    maths::to_i32(maths::float_of(word(line, k)))
+}
+
+fn is_box(line: &[u8; 351], b: IntBbox) -> bool {
+    (b.x0 == whole(line, 26))
+        & (b.y0 == whole(line, 27))
+        & (b.x1 == whole(line, 28))
+        & (b.y1 == whole(line, 29))
+}
+
+fn is_stop(line: &[u8; 351], number: u32, count: u32) -> bool {
+    (number == word(line, 24)) & (count == word(line, 25))
+}
+
+fn is_told(line: &[u8; 351], r: Drawn) -> bool {
+    match r {
+        Drawn::On(pen) => is_stop(line, 0, pen.count) & is_box(line, pen.bbox),
+        Drawn::NotNumber(count) => is_stop(line, 5, count),
+        Drawn::NoRoom(count) => is_stop(line, 6, count),
+        Drawn::NoJoin(count) => is_stop(line, 7, count),
+    }
+}
+
+// The lent words, stored and not, have the hash told.
+fn is_drawn(lines: &mut [u32], line: &[u8; 351]) -> bool {
+    fill(lines);
+    let r = calls::draw(lines, line);
+    is_told(line, r) & (hash(lines) == word(line, 30))
+}
+
+fn is_right(lines: &mut [u32], line: &[u8; 351]) -> bool {
+    let lent = word(line, 1) as usize;
+    if lent <= lines.len() {
+        return is_drawn(&mut lines[..lent], line);
+    }
+    false
+}
+
+fn report(count: u64, differ: u64) {
+    io::print_decimal(1, count);
+    io::write_all(1, b" vectors, ");
+    io::print_decimal(1, differ);
+    io::write_all(1, b" differ\n");
+}
+
+// One line of input: 0 if its answer is the one here, 1 if not, which it writes, and 2 at the end.
+fn replay(lines: &mut [u32; 188502]) -> u64 {
+    let mut line = [0u8; 351];
+    if io::read_full(0, &mut line) != LINE {
+        return 2;
+    }
+    if is_right(lines, &line) {
+        return 0;
+    }
+    io::write_all(1, &line);
+    1
+}
+
+fn main() {
+    // 31,417 lines.
+    let mut lines = [0u32; 188502];
+    let mut count: u64 = 0;
+    let mut differ: u64 = 0;
+    while count < MOST {
+        let r = replay(&mut lines);
+        if r > 1 {
+            break;
+        }
+        differ += r;
+        count += 1;
+    }
+    report(count, differ);
+}

@@ -1,0 +1,138 @@
+-- What a filled segment draws is one chain, from its first point to its last. Assumes nothing.
+use Prim.Native.Nat.{ℕ, zero, suc, _+_, _*_, _%_, _^_, _<_, _≤_}
+use mathlib.Core.Path.{_≡_, refl, ap, _∙_, subst}
+use mathlib.Core.Bool.{Bool, true, false, _&&_, cond}
+use mathlib.Core.List.{List, [], _∷_}
+use native.Mathlib.Omega.{arith}
+use native.Mathlib.Nat.{mod-lt}
+use lib.Dec.{T, eqb, leb, ltb, lit<}
+use lib.ListN.{length, getD, take, drop, replicate}
+use lib.Seq.{getD-take, getD-drop}
+use lib.Ieee.{Float, binary32, fits, round, eq}
+use lib.Ieee.Bits.{ofBits-fits}
+use lib.Ieee.Fits.{cond-fits, ofInt-fits, neg-fits}
+use Rattle.spiral.specs.Binary32.{whole}
+use Rattle.spiral.specs.Points.{FitsPoint}
+use Rattle.spiral.specs.declared.util.Vec2.{Vec2}
+use Rattle.drawing.specs.Sheet.{Event}
+use Rattle.curve.specs.Fit.{point}
+use Rattle.curve.specs.Chain.{Chain, written, fill-chain}
+use Rattle.curve.specs.Bounds.{lines-at-most}
+use Rattle.segment.specs.Segment.{fillEvents, shapeEvents}
+use Rattle.scene.specs.Reading.{f32Point, i16Of, i16Point, wide, pointWords, pointAt, lineCubic, quadCubic, origin, raised, cubicOf, reaches, segmentOf, floatsAt, transformOf}
+use Rattle.segment.specs.declared.Shape.the-variants.{Fill}
+use Rattle.scene.specs.declared.reading.SegmentRead.{SegmentRead}
+use Rattle.scene.specs.declared.reading.TransformRead.{TransformRead}
+use Rattle.flatten.specs.Tag.{found, inside, _>>=_, eventsBy, eventsAt, shapeAt, isStroke}
+use Rattle.flatten.specs.declared.call.Layout.{Layout}
+use Rattle.flatten.specs.declared.tag.Head.{Head}
+use Rattle.watertight.specs.Fill.{Call, readEvents, headOf, typeOf, pointOf, firstOf, lastOf, transformWords, writtenBy}
+
+-- ---- the points are numbers of binary32
+i16-fits : (h : ℕ) → T (fits binary32 (i16Of h))
+unfolding i16Of
+i16-fits h = cond-fits binary32 (ltb h 0x8000) _ _ (ofInt-fits binary32 _) (neg-fits binary32 _ (ofInt-fits binary32 _))
+
+point-fits : (w : Bool) (ws : List ℕ) (at : ℕ) → FitsPoint (pointAt w ws at)
+unfolding pointAt f32Point i16Point
+point-fits true ws at = (ofBits-fits binary32 _, ofBits-fits binary32 _)
+point-fits false ws at = (i16-fits _, i16-fits _)
+
+-- ---- the cubic of a segment starts at its first point and ends at its last
+ends-of : (k : ℕ) (p : ℕ → Vec2) → eqb k 0 ≡ false → k < 4 → (point (raised k false p) 0 ≡ p 0) × (point (raised k false p) 3 ≡ p k)
+unfolding raised lineCubic quadCubic
+ends-of zero p h l = let z : _≡_ {A = ℕ} 0 1 = cc in absurd (omega arith)
+ends-of (suc zero) p h l = (refl, refl)
+ends-of (suc (suc zero)) p h l = (refl, refl)
+ends-of (suc (suc (suc zero))) p h l = (refl, refl)
+ends-of (suc (suc (suc (suc k)))) p h l = absurd (omega arith)
+
+-- ---- the six numbers of a transform are those of its six words
+word-of : (ws : List ℕ) (at k : ℕ) → k < 6 → getD (take 6 (drop at ws)) k 0 ≡ getD ws (at + k) 0
+word-of ws at k h = getD-take 6 (drop at ws) k 0 h ∙ getD-drop at ws k 0
+
+here : (ws : List ℕ) (at : ℕ) → getD ws (at + 0) 0 ≡ getD ws at 0
+here ws at = let e : at + 0 ≡ at = omega arith in ap (λ (k : ℕ). getD ws k 0) e
+
+six-words : (ws : List ℕ) (at : ℕ) → floatsAt ws at ≡ floatsAt (take 6 (drop at ws)) 0
+unfolding floatsAt
+six-words ws at =
+    cc (here ws at, word-of ws at 0 (lit< tt), word-of ws at 1 (lit< tt), word-of ws at 2 (lit< tt), word-of ws at 3 (lit< tt), word-of ws at 4 (lit< tt), word-of ws at 5 (lit< tt))
+
+-- ---- what was read, where it was found
+found-z : (b : Bool) (z z' : List Float) → let r : TransformRead = cond b (record { found = true; z = z }) (record { found = false; z = z' }) in r .found ≡ true → r .z ≡ z
+found-z true z z' h = refl
+found-z false z z' h = let y : _≡_ {A = ℕ} 0 1 = cc in absurd (omega arith)
+
+found-points : (b : Bool) (ps ps' : List Vec2) → let r : SegmentRead = cond b (record { found = true; points = ps }) (record { found = false; points = ps' }) in r .found ≡ true → r .points ≡ ps
+found-points true ps ps' h = refl
+found-points false ps ps' h = let y : _≡_ {A = ℕ} 0 1 = cc in absurd (omega arith)
+
+transform-read : (scene : List ℕ) (base ix : ℕ) → transformOf scene base ix .found ≡ true → transformOf scene base ix .z ≡ floatsAt scene (base + ix * 6)
+unfolding transformOf
+transform-read scene base ix = found-z (ltb (base + ix * 6) (2 ^ 32) && leb (base + ix * 6 + 6) (length scene)) (floatsAt scene (base + ix * 6)) (replicate 6 (whole 0))
+
+segment-read : (byte offset : ℕ) (scene : List ℕ) (base : ℕ) → segmentOf byte false offset scene base .found ≡ true
+    → segmentOf byte false offset scene base .points ≡ cubicOf (byte % 4) false scene (wide byte) (base + offset)
+unfolding segmentOf
+segment-read byte offset scene base =
+    found-points (reaches (byte % 4) (wide byte) offset scene base) (cubicOf (byte % 4) false scene (wide byte) (base + offset)) (origin ∷ origin ∷ origin ∷ origin ∷ [])
+
+both-read : (a : TransformRead) (b : SegmentRead) (flags : ℕ) (es : List Event)
+    → (inside (a .found) (a .z) >>= λ z. inside (b .found) (b .points) >>= λ ps. found Fill >>= λ s. found (shapeEvents s flags z ps)) ≡ found es
+    → (a .found ≡ true) × (b .found ≡ true) × (fillEvents (a .z) (b .points) ≡ es)
+unfolding _>>=_ shapeEvents
+both-read a b flags es = go (a .found) (b .found)
+  where
+    go : (s t : Bool) → (inside s (a .z) >>= λ z. inside t (b .points) >>= λ ps. found Fill >>= λ s. found (shapeEvents s flags z ps)) ≡ found es
+        → (s ≡ true) × (t ≡ true) × (fillEvents (a .z) (b .points) ≡ es)
+    go true true h = (refl, refl, cc)
+    go true false h = let y : _≡_ {A = ℕ} 0 1 = cc in absurd (omega arith)
+    go false t h = let y : _≡_ {A = ℕ} 0 1 = cc in absurd (omega arith)
+
+-- ---- what a filled segment draws
+fill-events : (layout : Layout) (scene prefixes : List ℕ) (ix : ℕ) (h : Head) (es : List Event)
+    → eqb (h .tag .«tag_byte» % 4) 0 ≡ false → isStroke h ≡ false → eventsAt layout scene prefixes ix h ≡ found es
+    → fillEvents (floatsAt scene (layout .«transform_base» + h .tag .monoid .«trans_ix» * 6))
+    (cubicOf (h .tag .«tag_byte» % 4) false scene (wide (h .tag .«tag_byte»)) (layout .«data_base» + h .tag .monoid .«pathseg_offset»))
+    ≡ es
+unfolding eventsAt eventsBy shapeAt
+fill-events layout scene prefixes ix h es k f e =
+    let base = layout .«transform_base» in
+    let byte = h .tag .«tag_byte» in
+    let offset = h .tag .monoid .«pathseg_offset» in
+    let trans = h .tag .monoid .«trans_ix» in
+    let b = both-read (transformOf scene base trans) (segmentOf byte false offset scene (layout .«data_base»)) (h .flags) es (rw (k, f) at e) in
+    cc (transform-read scene base trans (b .0), segment-read byte offset scene (layout .«data_base») (b .1), b .2)
+
+zero-zero : eq (whole 0) (whole 0) ≡ true
+unfolding eq round
+zero-zero = refl
+
+carry : (z z' : List Float) (p p' q q' : Vec2) (es es' : List Event) → z ≡ z' → p ≡ p' → q ≡ q' → es ≡ es'
+    → Chain false (written z p) (written z q) es → Chain false (written z' p') (written z' q') es'
+carry z z' p p' q q' es es' a b c d h = rw (a, b, c, d) at h
+
+-- a call's tag i, and what it draws
+module _ (c : Call) (i : ℕ) (es : List Event) (segment : eqb (typeOf c i) 0 ≡ false) (no-stroke : isStroke (headOf c i) ≡ false) (is : readEvents c i (headOf c i) ≡ found es) where
+  pub fill-few : length es ≤ 6553600
+  unfolding fillEvents
+  fill-few = subst (λ (es : List Event). length es ≤ 6553600) (fill-events (c .layout) (c .scene) (c .prefixes) i _ es segment no-stroke is) (lines-at-most _ _ _ _ _)
+
+  pub fill-chain-of : Chain false (writtenBy (transformWords c i) (firstOf c i)) (writtenBy (transformWords c i) (lastOf c i)) es
+  unfolding fillEvents cubicOf pointOf
+  fill-chain-of =
+      let scene = c .scene in
+      let h = headOf c i in
+      let w = wide (h .tag .«tag_byte») in
+      let at = c .layout .«data_base» + h .tag .monoid .«pathseg_offset» in
+      let from = c .layout .«transform_base» + h .tag .monoid .«trans_ix» * 6 in
+      let k = h .tag .«tag_byte» % 4 in
+      let ps = cubicOf k false scene w at in
+      let e = ends-of k (λ j. pointAt w scene (at + j * pointWords w)) segment (mod-lt _ (lit< tt)) in
+      carry (floatsAt scene from) _ (point ps 0) _ (point ps 3) _ _ es (six-words scene from) (e .0) (e .1) (fill-events (c .layout) scene (c .prefixes) i h es segment no-stroke is)
+      (fill-chain ps (floatsAt scene from) (whole 0) (point ps 0) (point ps 3) zero-zero)
+
+pub points-fit : (c : Call) (i k : ℕ) → FitsPoint (pointOf c i k)
+unfolding pointOf
+points-fit c i k = point-fits _ (c .scene) _

@@ -1,0 +1,10 @@
+pub mod Count
+pub mod Fill
+pub mod Watertight
+pub mod Balance
+pub mod FillLaws
+pub mod Runs
+pub mod Steps
+pub mod Accepted
+pub mod Stored
+pub mod Examples

@@ -1,0 +1,1 @@
+// Closed fills are watertight: see specs/. There is no code here.

@@ -1,0 +1,277 @@
+//! The whole call of the source: what it answers, what it stores, and what it merges.
+
+use vello_encoding::{
+    BumpAllocators, ConfigUniform, Layout, LineSoup, Monoid, PathBbox, PathMonoid,
+};
+
+use crate::cpu::{flatten, tag_by_tag};
+use crate::sheet::Sheet;
+use crate::stops;
+
+/// What a call is given and lent. Prefixes and lines are words, of which some may be left over.
+#[derive(Clone)]
+pub struct Given {
+    pub n_wg: u32,
+    pub tag_base: u32,
+    pub data_base: u32,
+    pub transform_base: u32,
+    pub style_base: u32,
+    pub scene: Vec<u32>,
+    pub prefixes: Vec<u32>,
+    pub boxes: Vec<PathBbox>,
+    /// The second word of each record is not 0.
+    pub lines: Vec<u32>,
+}
+
+#[derive(Debug, PartialEq, Eq)]
+pub struct Told {
+    /// 0, or the refusal's.
+    pub number: u32,
+    /// The one in turn at a refusal, else 0.
+    pub tag: u64,
+    /// Of the lines stored.
+    pub count: u64,
+    pub lines: Vec<u32>,
+    pub boxes: Vec<PathBbox>,
+}
+
+type Main = fn(
+    u32,
+    &ConfigUniform,
+    &[u32],
+    &[PathMonoid],
+    &mut [PathBbox],
+    &mut BumpAllocators,
+    &mut [LineSoup],
+);
+
+/// The box of a path with no line yet.
+pub const EMPTY_BOX: PathBbox = PathBbox {
+    x0: i32::MAX,
+    y0: i32::MAX,
+    x1: i32::MIN,
+    y1: i32::MIN,
+    draw_flags: 0,
+    trans_ix: 0,
+};
+
+impl Given {
+    fn config(&self) -> ConfigUniform {
+        ConfigUniform {
+            layout: Layout {
+                path_tag_base: self.tag_base,
+                path_data_base: self.data_base,
+                transform_base: self.transform_base,
+                style_base: self.style_base,
+                ..Layout::default()
+            },
+        }
+    }
+
+    /// What the source does with so many workgroups. The tag in turn is not seen.
+    fn run(&self, main: Main, n_wg: u32) -> Told {
+        let config = self.config();
+        let (prefixes, _) = self.prefixes.as_chunks::<4>();
+        let prefixes: Vec<_> = prefixes.iter().map(prefix_of).collect();
+        let mut boxes = self.boxes.clone();
+        let mut sheet = Sheet::new(&self.lines);
+        let mut bump = BumpAllocators::default();
+        let number = stops::number_of(|| {
+            main(
+                n_wg,
+                &config,
+                &self.scene,
+                &prefixes,
+                &mut boxes,
+                &mut bump,
+                sheet.lines(),
+            );
+        });
+        let count = sheet.stored_from(0).len() as u64;
+        if number == 0 {
+            assert_eq!(u64::from(bump.lines), count);
+        }
+        Told {
+            number,
+            tag: 0,
+            count,
+            lines: sheet.words(),
+            boxes,
+        }
+    }
+
+    /// How many tags can be done, one after another, before the one at which the source panics.
+    fn tags_done(&self) -> u32 {
+        let stops = |tags: u32| self.run(tag_by_tag::reach_main, tags).number != 0;
+        let (mut done, mut stopped) = (0, self.n_wg * 256);
+        while stopped - done > 1 {
+            let middle = (done + stopped) / 2;
+            if stops(middle) {
+                stopped = middle;
+            } else {
+                done = middle;
+            }
+        }
+        done
+    }
+
+    pub fn told(&self) -> Told {
+        let mut told = self.run(flatten::reach_main, self.n_wg);
+        // The bases are looked at before any tag.
+        if told.number > 1 {
+            told.tag = u64::from(self.tags_done());
+        }
+        told
+    }
+}
+
+fn prefix_of(w: &[u32; 4]) -> PathMonoid {
+    PathMonoid {
+        path_ix: w[0],
+        trans_ix: w[1],
+        style_ix: w[2],
+        pathseg_offset: w[3],
+    }
+}
+
+/// The scan, which the source does not have: 0 and how many prefixes it filled, or 1 with none.
+pub fn scan(scene: &[u32], tag_base: u32, prefixes: &mut [u32]) -> (u32, u64) {
+    let Some(tags) = scene.get(tag_base as usize..) else {
+        return (1, 0);
+    };
+    let (prefixes, _) = prefixes.as_chunks_mut::<4>();
+    let mut sum = PathMonoid::default();
+    let mut count = 0;
+    for (prefix, tag) in prefixes.iter_mut().zip(tags) {
+        *prefix = [sum.path_ix, sum.trans_ix, sum.style_ix, sum.pathseg_offset];
+        sum = sum.combine(&PathMonoid::new(*tag));
+        count += 1;
+    }
+    (0, count)
+}
+
+/// The measured examples of the whole call.
+#[cfg(test)]
+mod tests {
+    use super::*;
+
+    fn triangle() -> Given {
+        let mut scene = vec![0; 76];
+        (scene[0], scene[1]) = (0x0101_4020, 0x0000_1005);
+        (scene[65], scene[66]) = (0x0000_0003, 0x0006_0000);
+        (scene[68], scene[71]) = (0x3f80_0000, 0x3f80_0000);
+        let mut given = Given {
+            n_wg: 1,
+            tag_base: 0,
+            data_base: 0x40,
+            transform_base: 0x44,
+            style_base: 0x4a,
+            scene,
+            prefixes: vec![0; 4 * 1024],
+            boxes: vec![EMPTY_BOX],
+            lines: vec![0xa5a5_a5a5; 6000],
+        };
+        given.rescan();
+        given
+    }
+
+    impl Given {
+        fn rescan(&mut self) {
+            assert_eq!(scan(&self.scene, self.tag_base, &mut self.prefixes).0, 0);
+        }
+
+        fn answer(&self) -> (u32, u64, u64) {
+            stops::watch();
+            let told = self.told();
+            (told.number, told.tag, told.count)
+        }
+    }
+
+    const BOX: PathBbox = PathBbox {
+        x0: 0,
+        y0: 0,
+        x1: 3,
+        y1: 6,
+        draw_flags: 0,
+        trans_ix: 0,
+    };
+
+    #[test]
+    fn the_triangle() {
+        let given = triangle();
+        assert_eq!(given.answer(), (0, 0, 3));
+        let told = given.told();
+        let [zero, three, six] = [0, 0x4040_0000, 0x40c0_0000];
+        assert_eq!(told.lines[..6], [0, 0, zero, zero, three, zero]);
+        assert_eq!(told.lines[6..12], [0, 0, three, zero, zero, six]);
+        assert_eq!(told.lines[12..18], [0, 0, zero, six, zero, zero]);
+        assert_eq!(told.lines[18..], given.lines[18..]);
+        assert_eq!(told.boxes, [BOX]);
+    }
+
+    #[test]
+    fn too_little_room() {
+        let mut given = triangle();
+        given.lines.truncate(12);
+        given.boxes[0].draw_flags = 9;
+        assert_eq!(given.answer(), (6, 4, 2));
+        assert_eq!(
+            given.told().boxes,
+            [PathBbox {
+                draw_flags: 9,
+                ..BOX
+            }]
+        );
+    }
+
+    #[test]
+    fn no_box() {
+        let mut given = triangle();
+        given.boxes.clear();
+        assert_eq!(given.answer(), (4, 5, 3));
+    }
+
+    #[test]
+    fn no_transform() {
+        let mut given = triangle();
+        given.scene[0] = 0x0101_4000;
+        given.rescan();
+        assert_eq!(given.answer(), (2, 2, 0));
+    }
+
+    #[test]
+    fn bases() {
+        let mut given = triangle();
+        (given.n_wg, given.data_base) = (0, 0);
+        given.scene.clear();
+        assert_eq!(given.answer(), (0, 0, 0));
+        given.data_base = 1;
+        assert_eq!(given.answer(), (1, 0, 0));
+    }
+
+    #[test]
+    fn missing_prefix() {
+        let mut given = triangle();
+        given.prefixes.truncate(7);
+        assert_eq!(given.answer(), (3, 4, 2));
+    }
+
+    /// A stroke of one line, with a marker behind that closes it or not.
+    fn stroke(flags: u32, width: f32, marker: u32) -> Given {
+        let mut given = triangle();
+        given.scene[0] = 0x0001_4020 | marker << 24;
+        given.scene[1] = 0x0000_0010;
+        (given.scene[74], given.scene[75]) = (flags, width.to_bits());
+        given.rescan();
+        given
+    }
+
+    #[test]
+    fn strokes() {
+        // two sides, and at the end a cap or a join
+        assert_eq!(stroke(0x8000_0000, 1., 0x06).answer(), (0, 0, 4));
+        assert_eq!(stroke(0x8000_0000, 1., 0x05).answer(), (0, 0, 4));
+        assert_eq!(stroke(0x8000_0000, f32::NAN, 0x06).answer(), (5, 2, 0));
+        assert_eq!(stroke(0xb000_0000, 1., 0x05).answer(), (7, 2, 2));
+    }
+}
