@@ -1,14 +1,15 @@
 /*
  * The C interface of Hinthevoun. Link target/staticlib/libexports.a, written by `tools/staticlib exports`, and -lm.
  *
- * Every function answers for every argument. None keeps state, touches memory or reports errors in another way than by
- * its answer. Results are meant bit for bit, with one exception: an answer that is not a number is some NaN, and which
- * one is not promised. The rounding mode must be the default, to the nearest, and subnormal numbers must not be flushed
- * to zero.
+ * Every function answers for every argument. None keeps state, allocates, touches memory that it is not lent or reports
+ * errors in another way than by its answer. Results are meant bit for bit, with one exception: a float answer that is
+ * not a number is some NaN, and which one is not promised. The rounding mode must be the default, to the nearest, and
+ * subnormal numbers must not be flushed to zero.
  */
 #ifndef HINTHEVOUN_H
 #define HINTHEVOUN_H
 
+#include <stddef.h>
 #include <stdint.h>
 
 #ifdef __cplusplus
@@ -64,6 +65,67 @@ float hinth_asin(float x);
 
 /* The angle with that cosine, from 0 to pi. Outside -1 to 1 it is NaN. */
 float hinth_acos(float x);
+
+/*
+ * Paths: from the tags, points, transforms and styles of a scene to lines.
+ *
+ * A list is lent as a pointer to its first element and then its number of elements: words for the lists of uint32_t and
+ * uint64_t, records for the boxes. The pointer must be aligned and must not be null, also where the number is 0. A list
+ * that is written must not overlap another one. `const` lists are only read.
+ *
+ * The result is 0 if the call was accepted, or the number of its refusal:
+ *
+ *   1  the tag base or the data base lies past the scene's end
+ *   2  a read of the scene falls outside it, or an address passes 2^32 - 1
+ *   3  a prefix that a tag needs is not lent
+ *   4  a path tag names a box that is not lent
+ *   5  a line would have a coordinate that is not a number, or the count of a curve's pieces is not a number
+ *   6  there is no room for the next line, or the count of lines would be 2^32
+ *   7  a join is drawn and the style's two join bits are 3
+ */
+
+/*
+ * Fills the prefixes that hinth_flatten needs, one for each word of tags: four words (path, transform, style, data),
+ * the sums over the tags in the words from tag_base on and before that one. As many whole prefixes are filled as
+ * prefix_words has room for and as there are words in the scene from tag_base on; words behind them are not touched.
+ *
+ * The result is 0, or 1 if tag_base is past scene_len; then no prefix is filled. out[0] is the count of prefixes
+ * filled; if out_len is 0 it is not written. Nothing else of out is ever written.
+ */
+uint32_t hinth_scan(const uint32_t *scene, size_t scene_len, uint32_t tag_base, uint32_t *prefixes, size_t prefix_words,
+                    uint64_t *out, size_t out_len);
+
+/*
+ * The box of a path: what its lines lie within, floors at x0 and y0, ceilings at x1 and y1; the draw flags (1 for the
+ * even-odd rule, else 0); and the index of its transform.
+ */
+struct hinth_box {
+    int32_t x0, y0, x1, y1;
+    uint32_t draw_flags, trans_ix;
+};
+
+/*
+ * Writes the lines of 256 * n_wg tags, one tag after the other. The tags stand in the scene from the word tag_base on,
+ * four to a word, the points from data_base on, transforms of six words from transform_base and styles of two from
+ * style_base. The prefixes are those of hinth_scan for the same scene and tag_base.
+ *
+ * A line is six words: its path, 0, and the bits of the floats x and y of its start and of its end. Lines are stored
+ * from lines[0] on; room is for line_words / 6 of them, and words behind the last one stored are not touched. A subpath
+ * that the scene leaves open is not closed.
+ *
+ * The box that a path's index names, if it is lent, is widened by the box of what each of its tags drew, where that has
+ * extent; a path tag stores draw flags and transform index there. A box is widened and never reset: give x0 and y0 as
+ * INT32_MAX and x1 and y1 as INT32_MIN to begin with.
+ *
+ * out[0] is the index of the tag in turn at a refusal, 0 if accepted or for refusal 1; out[1] is the count of whole
+ * lines stored. If out_len is under 2 neither is written; nothing else of out is ever written. At a refusal the lines
+ * stored stand, and the boxes hold what the tags before the one in turn did, with flags and transform index of that one
+ * if it had stored them.
+ */
+uint32_t hinth_flatten(uint32_t n_wg, uint32_t tag_base, uint32_t data_base, uint32_t transform_base,
+                       uint32_t style_base, const uint32_t *scene, size_t scene_len, const uint32_t *prefixes,
+                       size_t prefix_words, struct hinth_box *boxes, size_t n_boxes, uint32_t *lines, size_t line_words,
+                       uint64_t *out, size_t out_len);
 
 #ifdef __cplusplus
 }

@@ -1,4 +1,4 @@
-/* Calls each function of the header once or twice from C. Prints a line for each call; exits with 1 if one is wrong. */
+/* Calls each function of the header from C. Prints a line for each check; exits with 1 if one is wrong. */
 #include "hinthevoun.h"
 
 #include <stdio.h>
@@ -18,6 +18,76 @@ static void expect(const char *call, float answer, uint32_t word) {
 
 #define EXPECT(call, word) expect(#call, call, word)
 
+static void check(const char *what, int right) {
+    printf("%s %s\n", right ? "ok  " : "FAIL", what);
+    failed |= !right;
+}
+
+#define CHECK(what) check(#what, what)
+
+/* A triangle: its tags at word 0, points at 64, transform at 68, style at 74; and what is stored of it. */
+#define SCENE_LEN 76
+static const uint32_t triangle[SCENE_LEN] = {
+    [0] = 0x01014020u, 0x00001005u, [64] = 0x00000000u, 0x00000003u, 0x00060000u, 0x00000000u,
+    [68] = 0x3f800000u, 0, 0, 0x3f800000u, 0, 0, [74] = 0, 0};
+static const uint32_t triangle_lines[18] = {0, 0, 0, 0, 0x40400000u, 0, 0, 0, 0x40400000u,
+                                            0, 0, 0x40c00000u, 0, 0, 0, 0x40c00000u, 0, 0};
+
+/* What one call is lent: lists one longer than the scan, the lines and the answer need, filled with a mark. */
+#define MARK 0xa5a5a5a5u
+static uint32_t prefixes[4 * SCENE_LEN + 1], lines[19];
+static struct hinth_box box;
+static uint64_t out[3];
+
+static void prepare(void) {
+    const struct hinth_box fresh = {INT32_MAX, INT32_MAX, INT32_MIN, INT32_MIN, 7, 7};
+    for (size_t i = 0; i < sizeof prefixes / sizeof *prefixes; i++) prefixes[i] = MARK;
+    for (size_t i = 0; i < sizeof lines / sizeof *lines; i++) lines[i] = MARK;
+    for (size_t i = 0; i < sizeof out / sizeof *out; i++) out[i] = MARK;
+    box = fresh;
+}
+
+/* Whether the first words are the triangle's lines and the others are as at entry. */
+static int stored(size_t words) {
+    for (size_t i = 0; i < sizeof lines / sizeof *lines; i++)
+        if (lines[i] != (i < words ? triangle_lines[i] : MARK)) return 0;
+    return 1;
+}
+
+static int boxed(uint32_t draw_flags, uint32_t trans_ix) {
+    return box.x0 == 0 && box.y0 == 0 && box.x1 == 3 && box.y1 == 6 && box.draw_flags == draw_flags &&
+           box.trans_ix == trans_ix;
+}
+
+static uint32_t scan(uint32_t tag_base, size_t out_len) {
+    prepare();
+    return hinth_scan(triangle, SCENE_LEN, tag_base, prefixes, 4 * SCENE_LEN + 1, out, out_len);
+}
+
+static uint32_t flatten(uint32_t data_base, size_t n_boxes, size_t line_words) {
+    scan(0, 0);
+    return hinth_flatten(1, 0, data_base, 68, 74, triangle, SCENE_LEN, prefixes, 4 * SCENE_LEN, &box, n_boxes, lines,
+                         line_words, out, 2);
+}
+
+static void paths(void) {
+    /* the second prefix sums a transform, a style and two lines; the third a line that ends a subpath and a path, too */
+    CHECK(scan(0, 3) == 0 && out[0] == SCENE_LEN && out[1] == MARK);
+    CHECK(prefixes[3] == 0 && prefixes[4] == 0 && prefixes[5] == 1 && prefixes[6] == 2 && prefixes[7] == 2);
+    CHECK(prefixes[8] == 1 && prefixes[9] == 1 && prefixes[10] == 2 && prefixes[11] == 4);
+    CHECK(prefixes[4 * SCENE_LEN - 1] != MARK && prefixes[4 * SCENE_LEN] == MARK);
+    CHECK(scan(SCENE_LEN, 1) == 0 && out[0] == 0 && prefixes[0] == MARK);
+    CHECK(scan(SCENE_LEN + 1, 1) == 1 && out[0] == 0 && prefixes[0] == MARK);
+    CHECK(scan(0, 0) == 0 && out[0] == MARK);
+    CHECK(flatten(64, 1, 19) == 0 && out[0] == 0 && out[1] == 3 && out[2] == MARK);
+    CHECK(stored(18) && boxed(0, 0));
+    CHECK(flatten(64, 1, 12) == 6 && out[0] == 4 && out[1] == 2);
+    CHECK(stored(12) && boxed(7, 7));
+    CHECK(flatten(64, 0, 19) == 4 && out[0] == 5 && out[1] == 3);
+    CHECK(stored(18) && box.x0 == INT32_MAX);
+    CHECK(flatten(SCENE_LEN + 1, 1, 19) == 1 && out[0] == 0 && out[1] == 0 && stored(0));
+}
+
 int main(void) {
     EXPECT(hinth_sqrt(2.0f), 0x3fb504f3u);
     EXPECT(hinth_sqrt(-1.0f), 0x7fc00000u);
@@ -35,5 +105,6 @@ int main(void) {
     EXPECT(hinth_asin(2.0f), 0x7fc00000u);
     EXPECT(hinth_acos(0.0f), 0x3fc90fdbu);
     EXPECT(hinth_acos(1.0f), 0x00000000u);
+    paths();
     return failed;
 }
