@@ -71,7 +71,7 @@ static uint32_t flatten(uint32_t data_base, size_t n_boxes, size_t line_words) {
 }
 
 static void paths(void) {
-    /* the second prefix sums a transform, a style and two lines; the third a line that ends a subpath and a path, too */
+    /* the second prefix sums a transform, a style and two lines; the third also a last line and a path */
     CHECK(scan(0, 3) == 0 && out[0] == SCENE_LEN && out[1] == MARK);
     CHECK(prefixes[3] == 0 && prefixes[4] == 0 && prefixes[5] == 1 && prefixes[6] == 2 && prefixes[7] == 2);
     CHECK(prefixes[8] == 1 && prefixes[9] == 1 && prefixes[10] == 2 && prefixes[11] == 4);

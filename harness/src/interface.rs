@@ -1,11 +1,12 @@
-//! The C header: a small C program that includes it is compiled, linked with the same archive and run.
+//! The library as others link it: a small C program that includes the header is compiled, linked with the same archive
+//! and run, and so are the tests of the Rust wrapper.
 
 use crate::sweep::Tally;
-use std::path::Path;
+use std::path::{Path, PathBuf};
 use std::process::Command;
 
-pub fn check() -> Tally {
-    let root = Path::new(env!("CARGO_MANIFEST_DIR")).join("..");
+pub fn header() -> Tally {
+    let root = root();
     let program = root.join("target/harness/interface");
     let compiled = output(
         Command::new("cc")
@@ -18,12 +19,38 @@ pub fn check() -> Tally {
             .arg(&program),
     );
     let said = compiled.and_then(|_| output(&mut Command::new(&program)));
+    counted(said, |line| Some(line.starts_with("ok")))
+}
+
+pub fn wrapper() -> Tally {
+    let root = root();
+    let said = output(
+        Command::new("cargo")
+            .args(["test", "--offline", "--locked", "--manifest-path"])
+            .arg(root.join("wrapper/Cargo.toml"))
+            .env("CARGO_TARGET_DIR", root.join("target/wrapper")),
+    );
+    counted(said, |line| {
+        let (_, end) = line.strip_prefix("test ")?.split_once(" ... ")?;
+        Some(end == "ok")
+    })
+}
+
+fn root() -> PathBuf {
+    Path::new(env!("CARGO_MANIFEST_DIR")).join("..")
+}
+
+/// Counts the lines that tell of a test, by whether it passed. A failed run with no such line counts as one.
+fn counted(said: Result<String, String>, passed: impl Fn(&str) -> Option<bool>) -> Tally {
     let mut tally = Tally::default();
     for line in said.as_ref().unwrap_or_else(|said| said).lines() {
-        tally.count(line.starts_with("ok"), || line.to_string());
+        if let Some(right) = passed(line) {
+            tally.count(right, || line.to_string());
+        }
     }
-    if said.is_err() && tally.failed == 0 {
-        tally.count(false, || "the C program stopped short".to_string());
+    match said {
+        Err(said) if tally.failed == 0 => tally.count(false, || said),
+        _ => {}
     }
     tally
 }

@@ -51,7 +51,8 @@ fn main() -> ExitCode {
 /// Runs the checks whose names begin with `only`.
 fn checks(extent: Extent, only: &str) -> ExitCode {
     let mut report = Report::new(only);
-    report.check("C header: a C program that uses it", interface::check);
+    report.check("C header: a C program that uses it", interface::header);
+    report.check("Rust wrapper: its tests", interface::wrapper);
     roots::run(&mut report, extent);
     trig::run(&mut report, extent);
     match report.close() {

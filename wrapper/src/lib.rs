@@ -1,0 +1,98 @@
+//! From the encoded paths of a scene to lines and boxes: safe functions over the proved library, which is linked as C
+//! code. `include/hinthevoun.h` says what each part of a scene is; here lists are slices, and a refusal is an error.
+//!
+//! ```
+//! use hinthevoun::{Layout, PathBox, flatten, scan};
+//!
+//! // one workgroup of tags: a transform, a style, a line that ends its subpath, a path, and nothing more;
+//! // then the points (0, 0) and (3, 6), the identity and a style that fills
+//! let mut scene = vec![0x10054020];
+//! scene.resize(64, 0);
+//! let one = 1.0f32.to_bits();
+//! scene.extend([0x00000000, 0x00060003, one, 0, 0, one, 0, 0, 0, 0]);
+//! let layout = Layout { n_wg: 1, tag_base: 0, data_base: 64, transform_base: 66, style_base: 72 };
+//!
+//! let mut prefixes = [0; 4];
+//! assert_eq!(scan(&scene, layout.tag_base, &mut prefixes), Ok(1));
+//! let (mut boxes, mut lines) = ([PathBox::EMPTY], [0; 6]);
+//! assert_eq!(flatten(layout, &scene, &prefixes, &mut boxes, &mut lines), Ok(1));
+//! assert_eq!(lines, [0, 0, 0, 0, 3.0f32.to_bits(), 6.0f32.to_bits()]);
+//! assert_eq!(boxes, [PathBox { x0: 0, y0: 0, x1: 3, y1: 6, draw_flags: 0, trans_ix: 0 }]);
+//! ```
+
+mod ffi;
+
+/// Where in a scene its parts begin, in words, and how many workgroups of 256 tags to take.
+#[derive(Clone, Copy, Debug, PartialEq, Eq)]
+pub struct Layout {
+    pub n_wg: u32,
+    pub tag_base: u32,
+    pub data_base: u32,
+    pub transform_base: u32,
+    pub style_base: u32,
+}
+
+/// What a path's lines lie within, its draw flags and the index of its transform.
+#[derive(Clone, Copy, Debug, PartialEq, Eq)]
+#[repr(C)]
+pub struct PathBox {
+    pub x0: i32,
+    pub y0: i32,
+    pub x1: i32,
+    pub y1: i32,
+    pub draw_flags: u32,
+    pub trans_ix: u32,
+}
+
+impl PathBox {
+    /// The box to begin with: every other one widens it.
+    pub const EMPTY: PathBox =
+        PathBox { x0: i32::MAX, y0: i32::MAX, x1: i32::MIN, y1: i32::MIN, draw_flags: 0, trans_ix: 0 };
+}
+
+/// Why a call stopped: a number from 1 to 7, the index of the tag in turn, and how many whole lines are stored.
+#[derive(Clone, Copy, Debug, PartialEq, Eq)]
+pub struct Refusal {
+    pub number: u32,
+    pub tag: u64,
+    pub lines: u32,
+}
+
+impl std::fmt::Display for Refusal {
+    fn fmt(&self, f: &mut std::fmt::Formatter) -> std::fmt::Result {
+        let why = match self.number {
+            1 => "a base lies past the scene's end",
+            2 => "a read falls outside the scene",
+            3 => "a tag prefix is missing",
+            4 => "a path has no box",
+            5 => "a coordinate or a count is not a number",
+            6 => "no room for the next line",
+            _ => "the join is of no kind",
+        };
+        write!(f, "refused {} at {}: {why}", self.number, self.tag)
+    }
+}
+
+impl std::error::Error for Refusal {}
+
+/// Fills the prefixes that [`flatten`] needs, four words each, and returns how many. Words behind them stay.
+pub fn scan(scene: &[u32], tag_base: u32, prefixes: &mut [u32]) -> Result<usize, Refusal> {
+    let (number, count) = ffi::scan(scene, tag_base, prefixes);
+    // no more than a quarter of the words lent
+    if number == 0 { Ok(count as usize) } else { Err(Refusal { number, tag: 0, lines: 0 }) }
+}
+
+/// Stores the lines of the scene, six words each, widens the boxes of its paths, and returns how many lines. Words
+/// behind the last line stay, also at a refusal.
+pub fn flatten(
+    layout: Layout,
+    scene: &[u32],
+    prefixes: &[u32],
+    boxes: &mut [PathBox],
+    lines: &mut [u32],
+) -> Result<u32, Refusal> {
+    let (number, [tag, count]) = ffi::flatten(layout, scene, prefixes, boxes, lines);
+    // the library counts lines in 32 bits
+    let count = count as u32;
+    if number == 0 { Ok(count) } else { Err(Refusal { number, tag, lines: count }) }
+}
