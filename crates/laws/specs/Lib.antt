@@ -4,5 +4,3 @@ pub mod Own
 pub mod Dyadic
 pub mod Nan
 pub mod Compare
-pub mod Meet
-pub mod Twos

@@ -12,7 +12,8 @@ use borrow.Author.Tests.{lt-ltb, le-ltb}
 use Rattle.laws.specs.Dyadic.{add-value}
 use Rattle.laws.specs.Own.{zero-exp, round-own}
 use Rattle.numbers.specs.Words.{signOf, signed, absOf}
-use Rattle.numbers.specs.WordsLaws.{only-nan, nan-test}
+use Rattle.laws.specs.Nan.{nan-is}
+use Rattle.numbers.specs.WordsLaws.{nan-test}
 
 -- ---- a test's outcome as a fact
 pub yes : {b : Bool} → b ≡ true → T b
@@ -23,14 +24,14 @@ no p = rw p tt
 
 -- ---- a float compared with itself
 pub is-nan : (x : Float) → ne x x ≡ true → x ≡ nan
-is-nan x h = only-nan x (yes (sym (nan-test x) ∙ h))
+is-nan x h = nan-is x (yes (sym (nan-test x) ∙ h))
 
 pub is-number : (x : Float) → ne x x ≡ false → T (not (isNan x))
 is-number x h = no (sym (nan-test x) ∙ h)
 
 -- ---- a NaN's pattern
 pub nan-word : (w : ℕ) → 0x7f80_0000 < w % 0x8000_0000 → ofBits binary32 w ≡ nan
-nan-word w h = only-nan (ofBits binary32 w) (yes (sym (nanBits-is binary32 w) ∙ nanBits-above binary32 w ∙ lt-ltb 0x7f80_0000 (w % 0x8000_0000) h))
+nan-word w h = nan-is (ofBits binary32 w) (yes (sym (nanBits-is binary32 w) ∙ nanBits-above binary32 w ∙ lt-ltb 0x7f80_0000 (w % 0x8000_0000) h))
 
 pub number-word : (w : ℕ) → w % 0x8000_0000 ≤ 0x7f80_0000 → T (not (nanBits binary32 w))
 number-word w h = no (nanBits-above binary32 w ∙ le-ltb 0x7f80_0000 (w % 0x8000_0000) h)

@@ -7,7 +7,7 @@ use lib.Ieee.Bits.{is-false}
 use lib.Ieee.{Float, nan, inf, fin, binary32, isNan, lt, le, eq, fits}
 use Rattle.numbers.specs.Words.{signOf}
 use Rattle.laws.specs.Same.{either}
-use Rattle.numbers.specs.WordsLaws.{only-nan}
+use Rattle.laws.specs.Nan.{nan-is}
 use Rattle.numbers.specs.Select.{before, minOf, maxOf, clampOf}
 use Rattle.numbers.specs.Order.{Ordered, less, more, alike, ordered, le-self, not-lt→le, one-float, le-number-left, le-number-right}
 
@@ -86,8 +86,8 @@ max-numbers x y h k = rw (is-false (isNan x) h, is-false (isNan y) k)
 -- what holds where one is a NaN and where none is holds always
 by-nan : (P : Float → Float → Type 0) → ((y : Float) → P nan y) → ((x : Float) → P x nan) → ((x y : Float) → T (not (isNan x)) → T (not (isNan y)) → P x y) → (x y : Float) → P x y
 by-nan P l r n x y = elim (either (isNan x)) [
-  | inl h ↦ subst (λ (v : Float). P v y) (sym (only-nan x h)) (l y)
-  | inr h ↦ elim (either (isNan y)) [ inl k ↦ subst (λ (v : Float). P x v) (sym (only-nan y k)) (r x) | inr k ↦ n x y h k ]
+  | inl h ↦ subst (λ (v : Float). P v y) (sym (nan-is x h)) (l y)
+  | inr h ↦ elim (either (isNan y)) [ inl k ↦ subst (λ (v : Float). P x v) (sym (nan-is y k)) (r x) | inr k ↦ n x y h k ]
 ]
 
 pub min-comm : (x y : Float) → T (fits binary32 x) → T (fits binary32 y) → minOf x y ≡ minOf y x

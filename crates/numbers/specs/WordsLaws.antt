@@ -11,13 +11,7 @@ use lib.Ieee.Exact.{HasValue, round-exact}
 use borrow.Author.Tests.{ne-eqb}
 use Rattle.numbers.specs.Words.{signOf, signed, absOf, halfUnits, halfFields, halfOf}
 
--- ---- there is one NaN, and only a NaN differs from itself
-pub only-nan : (x : Float) → T (isNan x) → x ≡ nan
-unfolding isNan
-only-nan nan t = refl
-only-nan (inf s) t = absurd t
-only-nan (fin s m e) t = absurd t
-
+-- ---- only a NaN differs from itself
 both : (a : Bool) → T a → not (a && true) ≡ false
 both true t = refl
 

@@ -4,7 +4,7 @@ use mathlib.Core.Bool.{Bool, true, false, not, cond, true≢false}
 use Prim.Native.Nat.{ℕ, zero, suc, _+_, _-_, _*_, _/_, _%_, _^_, _≤_, _<_}
 use native.Mathlib.Nat.{lt-irrefl, mul-one, zero-mul, mul-pos, add-comm, zero-lt-suc}
 use native.Mathlib.Omega.{arith}
-use lib.Dec.{T, leb, ltb, eqb, nltb→le, leb→le, nleb→lt}
+use lib.Dec.{T, T, leb, ltb, eqb, nltb→le, leb→le, nleb→lt}
 use lib.Pow.{pow-pos}
 use borrow.Author.Tests.{lt-ltb, le-ltb, ne-eqb}
 use lib.Ieee.{Float, nan, inf, fin, binary32, binary64, up, down, odd, ofBits, toBits, ofFields, fits, isNan, nanBits, ne}
@@ -15,6 +15,7 @@ use lib.Ieee.Bits.{ofBits-toBits, toBits-lt, nanBits-is, nanBits-above}
 use Rattle.roots.specs.Root.{mag, cbrtOf, hypotOf, nearestRoot}
 use Rattle.roots.specs.Parts.{magBits}
 use Rattle.roots.specs.Laws.{mag-is}
+use Rattle.laws.specs.Nan.{nan-is}
 
 abbrev pub Worth : Float → Bool → ℕ → Type 0
 Worth v s a = HasValue v s a (2 ^ 149)
@@ -143,16 +144,11 @@ no-nan-pattern n h = subst (λ (t : Bool). T (not t)) (sym (nanBits-above binary
 pub infinite-at : (x : Float) → T (fits binary32 x) → toBits binary32 x % 2 ^ 31 ≡ 0x7f80_0000 → x ≡ inf (leb (2 ^ 31) (toBits binary32 x))
 infinite-at x F h = sym (ofBits-toBits binary32 x F) ∙ inf-at (toBits binary32 x) (toBits-lt binary32 x F) h
 
-only-nan : (x : Float) → isNan x ≡ true → x ≡ nan
-unfolding isNan
-only-nan nan e = refl
-only-nan (inf s) e = absurd (true≢false (sym e))
-only-nan (fin s m d) e = absurd (true≢false (sym e))
-
 pub nan-at : (x : Float) → T (fits binary32 x) → 0x7f80_0000 < toBits binary32 x % 2 ^ 31 → x ≡ nan
 nan-at x F h =
     let b = toBits binary32 x in
-    only-nan x (ap (λ (v : Float). isNan v) (sym (ofBits-toBits binary32 x F)) ∙ sym (nanBits-is binary32 b) ∙ nanBits-above binary32 b ∙ lt-ltb 0x7f80_0000 (b % 2 ^ 31) h)
+    let e : isNan x ≡ true = ap (λ (v : Float). isNan v) (sym (ofBits-toBits binary32 x F)) ∙ sym (nanBits-is binary32 b) ∙ nanBits-above binary32 b ∙ lt-ltb 0x7f80_0000 (b % 2 ^ 31) h in
+    nan-is x (subst T (sym e) tt)
 
 -- ---- `hypotOf`
 
