@@ -3,18 +3,12 @@
 
 use std::f32::consts::PI;
 
+use published::calls::{ARC, CAP, EULER, JOIN, Pen, draw};
 use vello_encoding::LineSoup;
 
-use crate::cpu::flatten::{Pen, reach_arc, reach_cap, reach_euler, reach_join};
-use crate::cpu::util::{Transform, Vec2};
 use crate::sheet::{FILL, Sheet};
 use crate::stops;
 use crate::values::Values;
-
-const ARC: u32 = 1;
-const CAP: u32 = 2;
-const JOIN: u32 = 3;
-const EULER: u32 = 4;
 
 type Point = [f32; 2];
 
@@ -23,12 +17,8 @@ const ORIGIN: Point = [0.; 2];
 const IDENTITY: [f32; 6] = [1., 0., 0., 1., 0., 0.];
 
 /// One that turns, stretches and shifts, one that turns over and shrinks, one that folds the plane into a line.
-const TRANSFORMS: [[f32; 6]; 4] = [
-    IDENTITY,
-    [1.5, 0.5, -0.25, 2., 10., -20.],
-    [-0.125, 0., 0., 0.125, 0.5, 0.],
-    [1., 2., 2., 4., 0., 0.],
-];
+const TRANSFORMS: [[f32; 6]; 4] =
+    [IDENTITY, [1.5, 0.5, -0.25, 2., 10., -20.], [-0.125, 0., 0., 0.125, 0.5, 0.], [1., 2., 2., 4., 0., 0.]];
 
 /// The arguments of every function: flags are of caps and joins, the number is an arc's angle or a curve's offset.
 #[derive(Clone)]
@@ -64,29 +54,14 @@ impl Call {
     }
 
     fn given(&self) -> Vec<u32> {
-        let mut words = vec![
-            self.kind,
-            self.lent,
-            self.count,
-            self.path,
-            self.flags,
-            word(self.number),
-        ];
+        let mut words = vec![self.kind, self.lent, self.count, self.path, self.flags, word(self.number)];
         words.extend(self.transform.map(word));
         words.extend(self.points.as_flattened().iter().copied().map(word));
         words
     }
 
     fn draw(&self, pen: &mut Pen, lines: &mut [LineSoup]) {
-        let points = self.points.map(|[x, y]| Vec2::new(x, y));
-        let transform = Transform(self.transform);
-        match self.kind {
-            ARC => reach_arc(self.path, &points, self.number, &transform, pen, lines),
-            CAP => reach_cap(self.path, self.flags, &points, &transform, pen, lines),
-            JOIN => reach_join(self.path, self.flags, &points, &transform, pen, lines),
-            EULER => reach_euler(self.path, &points, self.number, &transform, pen, lines),
-            _ => unreachable!(),
-        }
+        draw(self.kind, self.path, self.flags, self.number, self.transform, self.points, pen, lines);
     }
 
     /// The refusal's number or 0, the count, the box unless refused, as floats, the hash of the lent words, the first
@@ -143,11 +118,7 @@ impl Call {
     fn cramped(&self, values: &mut Values) -> Self {
         let count = values.below(4) as u32;
         let lent = values.below(40) as u32;
-        Self {
-            count,
-            lent,
-            ..*self
-        }
+        Self { count, lent, ..*self }
     }
 
     /// As it is, and in the three other ways.
@@ -179,41 +150,18 @@ fn normal(p: Point, length: f32) -> Point {
 
 /// The half circle of a radius about the origin.
 fn half_circle(radius: f32) -> Call {
-    Call {
-        number: PI,
-        points: [[radius, 0.], [-radius, 0.], ORIGIN, ORIGIN, ORIGIN, ORIGIN],
-        ..Call::new(ARC)
-    }
+    Call { number: PI, points: [[radius, 0.], [-radius, 0.], ORIGIN, ORIGIN, ORIGIN, ORIGIN], ..Call::new(ARC) }
 }
 
 fn arcs(values: &mut Values) {
     // The two of the measured examples: 1 line, and the most there can be at this angle.
     half_circle(0.25).print();
-    Call {
-        lent: 6 * 31416 + 2,
-        ..half_circle(16_777_216.)
-    }
-    .print();
+    Call { lent: 6 * 31416 + 2, ..half_circle(16_777_216.) }.print();
     for exponent in -3..18 {
         half_circle(2f32.powi(exponent)).print();
     }
-    for angle in [
-        0.,
-        -0.,
-        -1.,
-        1e-30,
-        1.,
-        2. * PI,
-        1e4,
-        1e30,
-        f32::INFINITY,
-        f32::NAN,
-    ] {
-        Call {
-            number: angle,
-            ..half_circle(8.)
-        }
-        .print();
+    for angle in [0., -0., -1., 1e-30, 1., 2. * PI, 1e4, 1e30, f32::INFINITY, f32::NAN] {
+        Call { number: angle, ..half_circle(8.) }.print();
     }
     for transform in TRANSFORMS {
         for _ in 0..3 {
@@ -221,14 +169,7 @@ fn arcs(values: &mut Values) {
             Call {
                 number: values.within(PI),
                 transform,
-                points: [
-                    plus(center, spoke),
-                    near(values, 64.),
-                    center,
-                    ORIGIN,
-                    ORIGIN,
-                    ORIGIN,
-                ],
+                points: [plus(center, spoke), near(values, 64.), center, ORIGIN, ORIGIN, ORIGIN],
                 ..Call::new(ARC)
             }
             .print_in_all_ways(values);
@@ -244,36 +185,20 @@ fn caps(values: &mut Values) {
             Call {
                 flags,
                 transform,
-                points: [
-                    point,
-                    plus(point, n),
-                    plus(point, times(n, -1.)),
-                    tangent,
-                    ORIGIN,
-                    ORIGIN,
-                ],
+                points: [point, plus(point, n), plus(point, times(n, -1.)), tangent, ORIGIN, ORIGIN],
                 ..Call::new(CAP)
             }
             .print_in_all_ways(values);
         }
     }
     // No count is above this one. A NaN is seen before that.
-    let full = Call {
-        count: u32::MAX,
-        ..Call::new(CAP)
-    };
+    let full = Call { count: u32::MAX, ..Call::new(CAP) };
     full.print();
-    Call {
-        points: [[f32::NAN; 2]; 6],
-        ..full
-    }
-    .print();
+    Call { points: [[f32::NAN; 2]; 6], ..full }.print();
 }
 
 /// The binary16 of miter limits: 4, 1, 1.5, the greatest, a subnormal, a zero, an infinity, a NaN, below zero.
-const LIMITS: [u32; 9] = [
-    0x4400, 0x3c00, 0x3e00, 0x7bff, 0x0001, 0x0000, 0x7c00, 0x7e01, 0xc400,
-];
+const LIMITS: [u32; 9] = [0x4400, 0x3c00, 0x3e00, 0x7bff, 0x0001, 0x0000, 0x7c00, 0x7e01, 0xc400];
 
 fn join(values: &mut Values, bits: u32, tan_prev: Point, tan_next: Point) -> Call {
     let limit = LIMITS[values.below(LIMITS.len() as u64) as usize];
@@ -281,14 +206,7 @@ fn join(values: &mut Values, bits: u32, tan_prev: Point, tan_next: Point) -> Cal
     Call {
         flags: bits << 28 | limit,
         transform: TRANSFORMS[values.below(4) as usize],
-        points: [
-            near(values, 64.),
-            tan_prev,
-            tan_next,
-            normal(tan_prev, width),
-            normal(tan_next, width),
-            ORIGIN,
-        ],
+        points: [near(values, 64.), tan_prev, tan_next, normal(tan_prev, width), normal(tan_next, width), ORIGIN],
         ..Call::new(JOIN)
     }
 }
@@ -297,22 +215,11 @@ fn joins(values: &mut Values) {
     // The front does not move where the back does, and the other way round.
     let least = 2f32.powi(-24);
     for n in [[least, 0.], [-least, 0.]] {
-        Call {
-            points: [[1., 1.], [3., 0.], [0., 2.], n, ORIGIN, ORIGIN],
-            ..Call::new(JOIN)
-        }
-        .print();
+        Call { points: [[1., 1.], [3., 0.], [0., 2.], n, ORIGIN, ORIGIN], ..Call::new(JOIN) }.print();
     }
     for bits in 0..4 {
         // Straight on, back, to the left, to the right, hardly at all, and both tangents of no length.
-        for turn in [
-            [1., 0.],
-            [-1., 0.],
-            [0., 1.],
-            [0., -1.],
-            [1., 1e-7],
-            [-1., 1e-7],
-        ] {
+        for turn in [[1., 0.], [-1., 0.], [0., 1.], [0., -1.], [1., 1e-7], [-1., 1e-7]] {
             join(values, bits, [3., 0.], times(turn, 2.)).print();
         }
         join(values, bits, ORIGIN, ORIGIN).print();
@@ -336,12 +243,7 @@ const SHAPES: [[Point; 4]; 30] = [
     [[0., 0.], [100., 100.], [0., 100.], [100., 0.]],
     [[0., 0.], [99.9, 100.], [0.1, 100.], [100., 0.]],
     // a large cusp: the error of a range is just what is taken
-    [
-        [0., 0.],
-        [170693.84, 170693.84],
-        [0., 170693.84],
-        [170693.84, 0.],
-    ],
+    [[0., 0.], [170693.84, 170693.84], [0., 170693.84], [170693.84, 0.]],
     // cusps at the ends
     [[0., 0.], [0., 0.], [50., 100.], [100., 0.]],
     [[0., 0.], [50., 100.], [100., 0.], [100., 0.]],
@@ -364,12 +266,7 @@ const SHAPES: [[Point; 4]; 30] = [
     [[0., 0.], [-50., -50.], [150., 150.], [100., 100.]],
     // small ones
     [[0., 0.], [1e-4, 2e-4], [3e-4, 2e-4], [4e-4, 0.]],
-    [
-        [1., 1.],
-        [1.0000001, 1.],
-        [1., 1.0000001],
-        [1.0000001, 1.0000001],
-    ],
+    [[1., 1.], [1.0000001, 1.], [1., 1.0000001], [1.0000001, 1.0000001]],
     [[0., 0.], [1e-40, 1e-39], [1e-38, 0.], [1e-30, 1e-20]],
     // huge ones
     [[-1e7, 0.], [1e7, 3e7], [2e7, -3e7], [1e7, 1e7]],
@@ -381,12 +278,7 @@ fn curve(shape: [Point; 4], offset: f32, transform: [f32; 6]) -> Call {
     let [p0, p1, p2, p3] = shape;
     let start = plus(p0, normal(plus(p1, times(p0, -1.)), offset));
     let end = plus(p3, normal(plus(p3, times(p2, -1.)), offset));
-    Call {
-        number: offset,
-        transform,
-        points: [p0, p1, p2, p3, start, end],
-        ..Call::new(EULER)
-    }
+    Call { number: offset, transform, points: [p0, p1, p2, p3, start, end], ..Call::new(EULER) }
 }
 
 fn curves(values: &mut Values) {
@@ -402,22 +294,10 @@ fn curves(values: &mut Values) {
     }
     for round in 0..24 {
         let shape = std::array::from_fn(|_| near(values, 200.));
-        let offset = if round % 3 == 0 {
-            0.
-        } else {
-            values.within(20.)
-        };
+        let offset = if round % 3 == 0 { 0. } else { values.within(20.) };
         curve(shape, offset, TRANSFORMS[values.below(4) as usize]).print_in_all_ways(values);
     }
-    for offset in [
-        f32::NAN,
-        f32::INFINITY,
-        -f32::INFINITY,
-        1e30,
-        -1e30,
-        1e-30,
-        -1e-30,
-    ] {
+    for offset in [f32::NAN, f32::INFINITY, -f32::INFINITY, 1e30, -1e30, 1e-30, -1e-30] {
         curve(SHAPES[0], offset, TRANSFORMS[1]).print();
     }
     // Offsets on both sides of where they count as low.

@@ -27,10 +27,7 @@ impl Sheet {
             p0: [w[2], w[3]].map(f32::from_bits),
             p1: [w[4], w[5]].map(f32::from_bits),
         };
-        Self {
-            lines: records.iter().map(line).collect(),
-            left_over: left_over.to_vec(),
-        }
+        Self { lines: records.iter().map(line).collect(), left_over: left_over.to_vec() }
     }
 
     pub fn lines(&mut self) -> &mut [LineSoup] {

@@ -1,7 +1,7 @@
-//! Writes the list that crates/replay_spiral replays: a line for each call of the source, its answer with it.
+//! Writes the list that crates/replay_spiral replays: a line for each call of the published Rust, its answer with it.
 
-use crate::cpu::euler::{CubicParams, EulerParams, EulerSeg, espc_int_approx, espc_int_inv_approx};
-use crate::cpu::util::{Transform, Vec2};
+use published::calls::{Numbers, answer, fitted};
+
 use crate::values::Values;
 
 /// The calls, by the number that a line begins with, with how many numbers each takes.
@@ -29,77 +29,20 @@ const CALLS: [(u32, usize); 21] = [
     (21, 1),  // espc_int_inv_approx
 ];
 
-/// The first numbers are the call's own.
-type Given = [f32; 10];
-
-fn point(v: Vec2) -> Vec<f32> {
-    vec![v.x, v.y]
-}
-
-fn truth(b: bool) -> Vec<f32> {
-    vec![f32::from(u8::from(b))]
-}
-
-fn answer(call: u32, v: &Given) -> Vec<f32> {
-    let at = |i: usize| Vec2::new(v[i], v[i + 1]);
-    let (p, q) = (at(0), at(2));
-    match call {
-        1 => point(p + q),
-        2 => point(p - q),
-        3 => point(p * v[2]),
-        4 => point(p / v[2]),
-        5 => point(-p),
-        6 => vec![p.dot(q)],
-        7 => vec![p.length()],
-        8 => vec![p.length_squared()],
-        9 => point(p.mix(q, v[4])),
-        10 => point(p.normalize()),
-        11 => vec![p.atan2()],
-        12 => truth(p.is_nan()),
-        13 => truth(p == q),
-        14 => point(Transform([v[0], v[1], v[2], v[3], v[4], v[5]]).apply(at(6))),
-        15 => point(Transform::identity().apply(p)),
-        16 => {
-            let c = CubicParams::from_points_derivs(p, q, at(4), at(6), v[8]);
-            vec![c.th0, c.th1, c.chord_len, c.err]
-        }
-        17 => {
-            let e = EulerParams::from_angles(v[0], v[1]);
-            vec![e.th0, e.k0, e.k1, e.ch]
-        }
-        18 => vec![spiral(v).eval_th(v[4])],
-        19 => point(EulerSeg::from_params(at(4), at(6), spiral(v)).eval_with_offset(v[8], v[9])),
-        20 => vec![espc_int_approx(v[0])],
-        21 => vec![espc_int_inv_approx(v[0])],
-        _ => unreachable!(),
-    }
-}
-
-fn spiral(v: &Given) -> EulerParams {
-    EulerParams {
-        th0: v[0],
-        k0: v[1],
-        k1: v[2],
-        ch: v[3],
-    }
-}
-
 /// A call, its ten numbers, and the four of its answer, zeros where it has fewer. A NaN is written in one way.
-fn line(call: u32, given: &Given) -> String {
-    let mut told = answer(call, given);
-    told.resize(4, 0.);
+fn line(call: u32, given: &Numbers) -> String {
     let word = |x: &f32| if x.is_nan() { 0x7fc0_0000 } else { x.to_bits() };
     std::iter::once(call)
         .chain(given.iter().map(word))
-        .chain(told.iter().map(word))
+        .chain(answer(call, given).iter().map(word))
         .map(|w| format!("{w:08x}"))
         .collect::<Vec<_>>()
         .join(" ")
 }
 
 /// As it comes up in flattening: points and tangents of a curve, the fitted spiral, fractions of it.
-fn usual(values: &mut Values, call: u32) -> Given {
-    let mut v: Given = std::array::from_fn(|_| values.within(64.));
+fn usual(values: &mut Values, call: u32) -> Numbers {
+    let mut v: Numbers = std::array::from_fn(|_| values.within(64.));
     match call {
         16 => {
             v[8] = 1. / (1u32 << values.below(17)) as f32;
@@ -113,8 +56,8 @@ fn usual(values: &mut Values, call: u32) -> Given {
         }
         17 => (v[0], v[1]) = (values.within(3.), values.within(3.)),
         18 | 19 => {
-            let e = EulerParams::from_angles(values.within(1.5), values.within(1.5));
-            (v[0], v[1], v[2], v[3]) = (e.th0, e.k0, e.k1, e.ch);
+            let spiral = fitted(values.within(1.5), values.within(1.5));
+            v[..4].copy_from_slice(&spiral);
             let t = values.below(17) as f32 / 16.;
             (v[4], v[8], v[9]) = (if call == 18 { t } else { v[4] }, t, values.within(2.));
         }
@@ -126,28 +69,16 @@ fn usual(values: &mut Values, call: u32) -> Given {
 
 /// The bounds of the two approximations and their neighbours, of both signs.
 fn near_bounds() -> Vec<f32> {
-    let bounds = [
-        0.8f32,
-        1.25,
-        2.1,
-        1.,
-        0.7010707591262915,
-        0.903249293595206,
-        2.038857793595206,
-        std::f32::consts::FRAC_PI_4,
-    ];
+    let bounds =
+        [0.8f32, 1.25, 2.1, 1., 0.7010707591262915, 0.903249293595206, 2.038857793595206, std::f32::consts::FRAC_PI_4];
     let near = |x: f32| [x.next_down(), x, x.next_up()];
-    bounds
-        .into_iter()
-        .flat_map(near)
-        .flat_map(|x| [x, -x])
-        .collect()
+    bounds.into_iter().flat_map(near).flat_map(|x| [x, -x]).collect()
 }
 
 pub fn list() {
     let mut values = Values::new();
     for (call, takes) in CALLS {
-        let only = |mut v: Given| {
+        let only = |mut v: Numbers| {
             v[takes..].fill(0.);
             println!("{}", line(call, &v));
         };

@@ -1,10 +1,9 @@
-//! What the port refuses, the source panics at. The refusal's number is told by the line of the source's text where the
+//! What the port refuses, the published Rust panics at. The refusal's number is told by the line of the text where the
 //! panic is.
 
 use std::cell::Cell;
-use std::fs;
-use std::panic::{self, AssertUnwindSafe, Location, PanicHookInfo};
-use std::path::Path;
+use std::collections::HashMap;
+use std::panic::{self, AssertUnwindSafe, PanicHookInfo};
 use std::process;
 
 /// What the line has in it, and the number.
@@ -27,21 +26,25 @@ thread_local! {
     static NUMBER: Cell<u32> = const { Cell::new(0) };
 }
 
-fn number_at(place: &Location) -> Option<u32> {
-    let file = Path::new(place.file());
-    if !file.starts_with(env!("OUT_DIR")) {
-        return None;
+/// A file and a line of it, counted from 1, and the number of a panic there.
+type Places = HashMap<(&'static str, u32), u32>;
+
+fn places() -> Places {
+    let mut places = Places::new();
+    for (file, text) in published::TEXTS {
+        for (line, i) in text.lines().zip(1..) {
+            if let Some((_, number)) = CAUSES.iter().find(|(part, _)| line.contains(part)) {
+                places.insert((file, i), *number);
+            }
+        }
     }
-    let text = fs::read_to_string(file).ok()?;
-    let line = text.lines().nth(place.line() as usize - 1)?;
-    let cause = CAUSES.iter().find(|(part, _)| line.contains(part))?;
-    Some(cause.1)
+    places
 }
 
 /// A panic anywhere else ends the program.
-fn note(panic: &PanicHookInfo) {
-    match panic.location().and_then(number_at) {
-        Some(number) => NUMBER.set(number),
+fn note(places: &Places, panic: &PanicHookInfo) {
+    match panic.location().and_then(|place| places.get(&(place.file(), place.line()))) {
+        Some(number) => NUMBER.set(*number),
         None => {
             eprintln!("{panic}");
             process::exit(3);
@@ -49,9 +52,10 @@ fn note(panic: &PanicHookInfo) {
     }
 }
 
-/// To be called once, before the source is.
+/// To be called before the published Rust is.
 pub fn watch() {
-    panic::set_hook(Box::new(note));
+    let places = places();
+    panic::set_hook(Box::new(move |panic| note(&places, panic)));
 }
 
 /// 0, or the number of the refusal that the panic stands for. What the call was lent stays as the panic left it.

@@ -1,10 +1,7 @@
 //! The whole call of the source: what it answers, what it stores, and what it merges.
 
-use vello_encoding::{
-    BumpAllocators, ConfigUniform, Layout, LineSoup, Monoid, PathBbox, PathMonoid,
-};
+use vello_encoding::{BumpAllocators, ConfigUniform, Layout, LineSoup, Monoid, PathBbox, PathMonoid};
 
-use crate::cpu::{flatten, tag_by_tag};
 use crate::sheet::Sheet;
 use crate::stops;
 
@@ -35,25 +32,11 @@ pub struct Told {
     pub boxes: Vec<PathBbox>,
 }
 
-type Main = fn(
-    u32,
-    &ConfigUniform,
-    &[u32],
-    &[PathMonoid],
-    &mut [PathBbox],
-    &mut BumpAllocators,
-    &mut [LineSoup],
-);
+type Main = fn(u32, &ConfigUniform, &[u32], &[PathMonoid], &mut [PathBbox], &mut BumpAllocators, &mut [LineSoup]);
 
 /// The box of a path with no line yet.
-pub const EMPTY_BOX: PathBbox = PathBbox {
-    x0: i32::MAX,
-    y0: i32::MAX,
-    x1: i32::MIN,
-    y1: i32::MIN,
-    draw_flags: 0,
-    trans_ix: 0,
-};
+pub const EMPTY_BOX: PathBbox =
+    PathBbox { x0: i32::MAX, y0: i32::MAX, x1: i32::MIN, y1: i32::MIN, draw_flags: 0, trans_ix: 0 };
 
 impl Given {
     fn config(&self) -> ConfigUniform {
@@ -77,32 +60,18 @@ impl Given {
         let mut sheet = Sheet::new(&self.lines);
         let mut bump = BumpAllocators::default();
         let number = stops::number_of(|| {
-            main(
-                n_wg,
-                &config,
-                &self.scene,
-                &prefixes,
-                &mut boxes,
-                &mut bump,
-                sheet.lines(),
-            );
+            main(n_wg, &config, &self.scene, &prefixes, &mut boxes, &mut bump, sheet.lines());
         });
         let count = sheet.stored_from(0).len() as u64;
         if number == 0 {
             assert_eq!(u64::from(bump.lines), count);
         }
-        Told {
-            number,
-            tag: 0,
-            count,
-            lines: sheet.words(),
-            boxes,
-        }
+        Told { number, tag: 0, count, lines: sheet.words(), boxes }
     }
 
     /// How many tags can be done, one after another, before the one at which the source panics.
     fn tags_done(&self) -> u32 {
-        let stops = |tags: u32| self.run(tag_by_tag::reach_main, tags).number != 0;
+        let stops = |tags: u32| self.run(published::reach_tag_by_tag, tags).number != 0;
         let (mut done, mut stopped) = (0, self.n_wg * 256);
         while stopped - done > 1 {
             let middle = (done + stopped) / 2;
@@ -116,7 +85,7 @@ impl Given {
     }
 
     pub fn told(&self) -> Told {
-        let mut told = self.run(flatten::reach_main, self.n_wg);
+        let mut told = self.run(published::reach_main, self.n_wg);
         // The bases are looked at before any tag.
         if told.number > 1 {
             told.tag = u64::from(self.tags_done());
@@ -126,12 +95,7 @@ impl Given {
 }
 
 fn prefix_of(w: &[u32; 4]) -> PathMonoid {
-    PathMonoid {
-        path_ix: w[0],
-        trans_ix: w[1],
-        style_ix: w[2],
-        pathseg_offset: w[3],
-    }
+    PathMonoid { path_ix: w[0], trans_ix: w[1], style_ix: w[2], pathseg_offset: w[3] }
 }
 
 /// The scan, which the source does not have: 0 and how many prefixes it filled, or 1 with none.
@@ -187,14 +151,7 @@ mod tests {
         }
     }
 
-    const BOX: PathBbox = PathBbox {
-        x0: 0,
-        y0: 0,
-        x1: 3,
-        y1: 6,
-        draw_flags: 0,
-        trans_ix: 0,
-    };
+    const BOX: PathBbox = PathBbox { x0: 0, y0: 0, x1: 3, y1: 6, draw_flags: 0, trans_ix: 0 };
 
     #[test]
     fn the_triangle() {
@@ -215,13 +172,7 @@ mod tests {
         given.lines.truncate(12);
         given.boxes[0].draw_flags = 9;
         assert_eq!(given.answer(), (6, 4, 2));
-        assert_eq!(
-            given.told().boxes,
-            [PathBbox {
-                draw_flags: 9,
-                ..BOX
-            }]
-        );
+        assert_eq!(given.told().boxes, [PathBbox { draw_flags: 9, ..BOX }]);
     }
 
     #[test]

@@ -1,6 +1,8 @@
 //! Stands in for the crate of that name: the words of the scene, in the meanings that the port takes them in. Sums are
 //! modulo 2^32.
 
+#![no_std]
+
 pub mod math;
 
 #[derive(Clone, Copy, Default)]
@@ -39,10 +41,7 @@ impl Monoid for PathMonoid {
 
     /// What the four tags of a word add.
     fn new(word: u32) -> Self {
-        word.to_le_bytes()
-            .into_iter()
-            .map(of_tag)
-            .fold(Self::default(), |sum, tag| sum.combine(&tag))
+        word.to_le_bytes().into_iter().map(of_tag).fold(Self::default(), |sum, tag| sum.combine(&tag))
     }
 
     fn combine(&self, other: &Self) -> Self {

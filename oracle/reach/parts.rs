@@ -1,4 +1,4 @@
-// What follows stands behind the source's text and calls its private functions.
+// What follows stands behind the published text and calls its private functions.
 
 /// The source's own box and count, kept outside of a call that may panic.
 pub struct Pen {
@@ -111,16 +111,4 @@ pub(crate) fn reach_euler(
         lines,
         &mut pen.bbox,
     );
-}
-
-pub(crate) fn reach_main(
-    n_wg: u32,
-    config: &ConfigUniform,
-    scene: &[u32],
-    prefixes: &[PathMonoid],
-    boxes: &mut [PathBbox],
-    bump: &mut BumpAllocators,
-    lines: &mut [LineSoup],
-) {
-    flatten_main(n_wg, config, scene, prefixes, boxes, bump, lines);
 }

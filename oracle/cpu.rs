@@ -1,8 +1,8 @@
-//! The source's files, as the build takes them.
+//! The module that the published files stand in, and what they name in it.
 
 #![allow(dead_code)]
 
-include!(concat!(env!("OUT_DIR"), "/cpu.rs"));
+include!(concat!(env!("OUT_DIR"), "/modules.rs"));
 
 /// What the wrapper of `flatten.rs` names. The wrapper is never called.
 pub struct CpuBinding<'a>(&'a ());
