@@ -1,49 +1,17 @@
-//! Compares whole calls of the source with the library's, by its C interface: the answer, every lent word, every box.
+//! Compares whole calls of the published Rust with the library's: the answers, every lent word, every box.
 
+use std::collections::BTreeMap;
+use std::thread;
+
+use hinthevoun::{Layout, PathBox, Refusal};
 use vello_encoding::PathBbox;
 
-use crate::scenes;
-use crate::values::Values;
-use crate::whole::{EMPTY_BOX, Given, scan};
-
-unsafe extern "C" {
-    fn hinth_scan(
-        scene: *const u32,
-        scene_len: usize,
-        tag_base: u32,
-        prefixes: *mut u32,
-        prefix_words: usize,
-        out: *mut u64,
-        out_len: usize,
-    ) -> u32;
-
-    fn hinth_flatten(
-        n_wg: u32,
-        tag_base: u32,
-        data_base: u32,
-        transform_base: u32,
-        style_base: u32,
-        scene: *const u32,
-        scene_len: usize,
-        prefixes: *const u32,
-        prefix_words: usize,
-        boxes: *mut PathBbox,
-        n_boxes: usize,
-        lines: *mut u32,
-        line_words: usize,
-        out: *mut u64,
-        out_len: usize,
-    ) -> u32;
-}
+use crate::scenes::{Scene, scene};
+use crate::shrink::shrink;
+use crate::whole::{EMPTY_BOX, Given, Told, scan};
 
 /// What stands behind each lent list, so that a store past the end is seen.
 const GUARD: usize = 8;
-
-/// So many calls that differ are shown.
-const SHOWN: u64 = 5;
-
-/// What `out` has before a call.
-const UNTOLD: u64 = 0xa5a5_a5a5_a5a5_a5a5;
 
 fn guarded<T: Clone>(list: &[T], guard: T) -> Vec<T> {
     let mut list = list.to_vec();
@@ -51,179 +19,188 @@ fn guarded<T: Clone>(list: &[T], guard: T) -> Vec<T> {
     list
 }
 
-/// What the library's call leaves, the guards with it.
+fn ours(b: &PathBbox) -> PathBox {
+    PathBox { x0: b.x0, y0: b.y0, x1: b.x1, y1: b.y1, draw_flags: b.draw_flags, trans_ix: b.trans_ix }
+}
+
+/// What a call leaves, the guards with it.
 #[derive(Debug, PartialEq, Eq)]
 struct Left {
     number: u32,
-    out: [u64; 3],
+    tag: u64,
+    count: u64,
     words: Vec<u32>,
-    boxes: Vec<PathBbox>,
+    boxes: Vec<PathBox>,
 }
 
-impl Left {
-    /// What it must leave: `out` only where it is long enough for all that is told.
-    fn expected(
-        number: u32,
-        told: &[u64],
-        words: &[u32],
-        boxes: &[PathBbox],
-        out_len: usize,
-    ) -> Self {
-        let mut out = [UNTOLD; 3];
-        if out_len >= told.len() {
-            out[..told.len()].copy_from_slice(told);
-        }
-        Self {
-            number,
-            out,
-            words: guarded(words, !0),
-            boxes: guarded(boxes, EMPTY_BOX),
-        }
-    }
+fn source_scan(given: &Given) -> Left {
+    let mut prefixes = given.prefixes.clone();
+    let (number, count) = scan(&given.scene, given.tag_base, &mut prefixes);
+    Left { number, tag: 0, count, words: guarded(&prefixes, !0), boxes: Vec::new() }
 }
 
-fn library_scan(given: &Given, out_len: usize) -> Left {
+fn library_scan(given: &Given) -> Left {
     let mut words = guarded(&given.prefixes, !0);
-    let mut out = [UNTOLD; 3];
-    // SAFETY: each list is as long as its length says.
-    let number = unsafe {
-        hinth_scan(
-            given.scene.as_ptr(),
-            given.scene.len(),
-            given.tag_base,
-            words.as_mut_ptr(),
-            given.prefixes.len(),
-            out.as_mut_ptr(),
-            out_len,
-        )
-    };
-    let boxes = guarded(&[], EMPTY_BOX);
-    Left {
-        number,
-        out,
-        words,
-        boxes,
-    }
+    let told = hinthevoun::scan(&given.scene, given.tag_base, &mut words[..given.prefixes.len()]);
+    left(told.map(|count| count as u64), words, Vec::new())
 }
 
-fn library_flatten(given: &Given, out_len: usize) -> Left {
+/// The tag that the library told is where the source's is looked for first.
+fn source_flatten(given: &Given, guess: u64) -> Left {
+    let Told { number, tag, count, lines, boxes } = given.told(guess);
+    Left { number, tag, count, words: guarded(&lines, !0), boxes: boxes_of(&boxes) }
+}
+
+fn library_flatten(given: &Given) -> Left {
     let mut words = guarded(&given.lines, !0);
-    let mut boxes = guarded(&given.boxes, EMPTY_BOX);
-    let mut out = [UNTOLD; 3];
-    // SAFETY: each list is as long as its length says, and the boxes have the fields of the C interface.
-    let number = unsafe {
-        hinth_flatten(
-            given.n_wg,
-            given.tag_base,
-            given.data_base,
-            given.transform_base,
-            given.style_base,
-            given.scene.as_ptr(),
-            given.scene.len(),
-            given.prefixes.as_ptr(),
-            given.prefixes.len(),
-            boxes.as_mut_ptr(),
-            given.boxes.len(),
-            words.as_mut_ptr(),
-            given.lines.len(),
-            out.as_mut_ptr(),
-            out_len,
-        )
+    let mut boxes = boxes_of(&given.boxes);
+    let layout = Layout {
+        n_wg: given.n_wg,
+        tag_base: given.tag_base,
+        data_base: given.data_base,
+        transform_base: given.transform_base,
+        style_base: given.style_base,
     };
-    Left {
-        number,
-        out,
-        words,
-        boxes,
+    let lent_boxes = &mut boxes[..given.boxes.len()];
+    let lent_words = &mut words[..given.lines.len()];
+    let told = hinthevoun::flatten(layout, &given.scene, &given.prefixes, lent_boxes, lent_words);
+    left(told.map(u64::from), words, boxes)
+}
+
+fn boxes_of(boxes: &[PathBbox]) -> Vec<PathBox> {
+    guarded(boxes, EMPTY_BOX).iter().map(ours).collect()
+}
+
+fn left(told: Result<u64, Refusal>, words: Vec<u32>, boxes: Vec<PathBox>) -> Left {
+    let (number, tag, count) = match told {
+        Ok(count) => (0, 0, count),
+        Err(refusal) => (refusal.number, refusal.tag, refusal.lines.into()),
+    };
+    Left { number, tag, count, words, boxes }
+}
+
+/// What each leaves of a call.
+struct Both {
+    call: &'static str,
+    source: Left,
+    library: Left,
+}
+
+impl Both {
+    fn scan(given: &Given) -> Self {
+        Self { call: "scan", source: source_scan(given), library: library_scan(given) }
+    }
+
+    fn flatten(given: &Given) -> Self {
+        let library = library_flatten(given);
+        Self { call: "flatten", source: source_flatten(given, library.tag), library }
+    }
+
+    fn differ(&self) -> bool {
+        self.source != self.library
     }
 }
 
-fn hex(words: &[u32]) -> String {
-    words.iter().map(|w| format!(" {w:08x}")).collect()
+fn either_differs(given: &Given) -> bool {
+    Both::scan(given).differ() || Both::flatten(given).differ()
 }
 
-fn show(what: &str, given: &Given, expected: &Left, left: &Left) {
-    println!(
-        "{what}: expected {} {:?}, left {} {:?}",
-        expected.number, expected.out, left.number, left.out
-    );
-    let word = expected
-        .words
-        .iter()
-        .zip(&left.words)
-        .position(|(a, b)| a != b);
-    let path = expected
-        .boxes
-        .iter()
-        .zip(&left.boxes)
-        .position(|(a, b)| a != b);
-    println!("  first word that differs: {word:?}; first box: {path:?}");
-    let bases = [
-        given.n_wg,
-        given.tag_base,
-        given.data_base,
-        given.transform_base,
-        given.style_base,
-    ];
-    println!(
-        "  given{}; {} words of lines",
-        hex(&bases),
-        given.lines.len()
-    );
-    println!("  boxes {:?}", given.boxes);
-    println!("  scene{}", hex(&given.scene));
-    println!("  prefixes{}", hex(&given.prefixes));
+fn first<T: PartialEq>(a: &[T], b: &[T]) -> Option<usize> {
+    a.iter().zip(b).position(|(a, b)| a != b)
 }
 
-/// What a call left against what it must leave. Shows it where the two differ, and counts it.
-struct Checked {
-    differ: u64,
-}
-
-impl Checked {
-    fn check(&mut self, what: &str, given: &Given, expected: &Left, left: &Left) {
-        if left == expected {
-            return;
-        }
-        if self.differ < SHOWN {
-            show(what, given, expected, left);
-        }
-        self.differ += 1;
+fn show(Both { call, source, library }: &Both) {
+    for (who, left) in [("the published Rust", source), ("the library", library)] {
+        println!("  {call} by {who}: number {}, tag {}, count {}", left.number, left.tag, left.count);
     }
+    if let Some(i) = first(&source.words, &library.words) {
+        println!("  word {i}: {:08x}, {:08x}", source.words[i], library.words[i]);
+    }
+    if let Some(i) = first(&source.boxes, &library.boxes) {
+        println!("  box {i}: {:?}, {:?}", source.boxes[i], library.boxes[i]);
+    }
+}
+
+/// Shows the smallest call that differs, made from the one of a scene.
+fn show_smallest(seed: u64, index: u64) {
+    println!("scene {index} of seed {seed} differs; made as small as can be:");
+    let small = shrink(&scene(seed, index).given, &either_differs);
+    [Both::scan(&small), Both::flatten(&small)].iter().filter(|both| both.differ()).for_each(show);
+    small.show();
+}
+
+#[derive(Default)]
+struct Tally {
+    /// By the source's number.
+    numbers: [u64; 8],
+    /// Refused behind a line.
+    late: u64,
+    lines: u64,
+    /// Scenes with it, and those of them accepted.
+    names: BTreeMap<&'static str, [u64; 2]>,
+    differ: Vec<u64>,
+}
+
+impl Tally {
+    fn take(&mut self, index: u64, Scene { given, mut names }: Scene) {
+        let (scan, both) = (Both::scan(&given), Both::flatten(&given));
+        let source = &both.source;
+        self.numbers[source.number as usize] += 1;
+        self.lines += source.count;
+        self.late += u64::from(source.number > 0 && source.count > 0);
+        names.sort_unstable();
+        names.dedup();
+        for name in names {
+            let [all, accepted] = self.names.entry(name).or_default();
+            *all += 1;
+            *accepted += u64::from(source.number == 0);
+        }
+        if scan.differ() || both.differ() {
+            self.differ.push(index);
+        }
+    }
+
+    fn add(&mut self, other: Self) {
+        for (sum, n) in self.numbers.iter_mut().zip(other.numbers) {
+            *sum += n;
+        }
+        self.late += other.late;
+        self.lines += other.lines;
+        for (name, [all, accepted]) in other.names {
+            let sums = self.names.entry(name).or_default();
+            *sums = [sums[0] + all, sums[1] + accepted];
+        }
+        self.differ.extend(other.differ);
+    }
+}
+
+/// The scenes from one on, each so many behind the last.
+fn tally(seed: u64, scenes: u64, from: usize, by: usize) -> Tally {
+    let mut tally = Tally::default();
+    for index in (from as u64..scenes).step_by(by) {
+        tally.take(index, scene(seed, index));
+    }
+    tally
 }
 
 /// Makes so many scenes and compares both calls on each. Whether all is the same.
-pub fn compare(scenes: u64, seed: u64) -> bool {
-    let mut values = Values::from(seed);
-    let mut checked = Checked { differ: 0 };
-    let mut numbers = [0u64; 8];
-    let mut lines = 0;
-    for _ in 0..scenes {
-        let given = scenes::scene(&mut values);
-        let out_len = if values.below(8) == 0 {
-            values.below(4) as usize
-        } else {
-            2
-        };
-
-        let mut prefixes = given.prefixes.clone();
-        let (number, count) = scan(&given.scene, given.tag_base, &mut prefixes);
-        let expected = Left::expected(number, &[count], &prefixes, &[], out_len);
-        checked.check("scan", &given, &expected, &library_scan(&given, out_len));
-
-        let told = given.told();
-        numbers[told.number as usize] += 1;
-        lines += told.count;
-        let answer = [told.tag, told.count];
-        let expected = Left::expected(told.number, &answer, &told.lines, &told.boxes, out_len);
-        checked.check(
-            "flatten",
-            &given,
-            &expected,
-            &library_flatten(&given, out_len),
-        );
+pub fn compare(seed: u64, scenes: u64, with_names: bool) -> bool {
+    let threads = thread::available_parallelism().map_or(1, usize::from);
+    let mut sum = Tally::default();
+    thread::scope(|scope| {
+        let spawn = |i: usize| scope.spawn(move || tally(seed, scenes, i, threads));
+        let running: Vec<_> = (0..threads).map(spawn).collect();
+        running.into_iter().for_each(|part| sum.add(part.join().expect("a panic ends the program")));
+    });
+    if with_names {
+        sum.names.iter().for_each(|(name, [all, accepted])| println!("{all:10} {accepted:10}  {name}"));
     }
-    println!("accepted and refused with 1 to 7: {numbers:?}; {lines} lines");
-    println!("{scenes} scenes, {} calls differ", checked.differ);
-    checked.differ == 0
+    if let Some(index) = sum.differ.iter().min() {
+        show_smallest(seed, *index);
+    }
+    let [accepted, refused @ ..] = sum.numbers;
+    println!("accepted {accepted}; refused with 1 to 7 {refused:?}, {} of them behind a line", sum.late);
+    println!("{} lines", sum.lines);
+    println!("{scenes} scenes of seed {seed}, {} differ", sum.differ.len());
+    sum.differ.is_empty()
 }

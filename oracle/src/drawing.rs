@@ -6,11 +6,10 @@ use std::f32::consts::PI;
 use published::calls::{ARC, CAP, EULER, JOIN, Pen, draw};
 use vello_encoding::LineSoup;
 
-use crate::sheet::{FILL, Sheet};
+use crate::shapes::{Point, SHAPES};
+use crate::sheet::{FILL, Sheet, hash};
 use crate::stops;
 use crate::values::Values;
-
-type Point = [f32; 2];
 
 const ORIGIN: Point = [0.; 2];
 
@@ -81,7 +80,7 @@ impl Call {
         let points = |line: Option<&[u32; 6]>| line.map_or([0; 4], |w| [w[2], w[3], w[4], w[5]]);
         let mut words = vec![number, count];
         words.extend(bbox.map(f32::to_bits));
-        words.push(sheet.hash());
+        words.push(hash(&sheet.words()));
         words.extend(points(stored.first()));
         words.extend(points(stored.last()));
         words
@@ -230,49 +229,6 @@ fn joins(values: &mut Values) {
     }
 }
 
-/// Shapes of four points.
-const SHAPES: [[Point; 4]; 30] = [
-    // an arch, an S, a quarter of a circle, a flat one
-    [[0., 0.], [10., 80.], [90., 80.], [100., 0.]],
-    [[0., 0.], [200., 100.], [-100., 100.], [100., 200.]],
-    [[100., 0.], [100., 55.2], [55.2, 100.], [0., 100.]],
-    [[0., 0.], [30., 0.1], [60., -0.1], [90., 0.]],
-    // a loop, a narrow loop, a cusp, nearly one
-    [[0., 0.], [300., 200.], [-200., 200.], [100., 0.]],
-    [[0., 0.], [101., 100.], [-1., 100.], [100., 0.]],
-    [[0., 0.], [100., 100.], [0., 100.], [100., 0.]],
-    [[0., 0.], [99.9, 100.], [0.1, 100.], [100., 0.]],
-    // a large cusp: the error of a range is just what is taken
-    [[0., 0.], [170693.84, 170693.84], [0., 170693.84], [170693.84, 0.]],
-    // cusps at the ends
-    [[0., 0.], [0., 0.], [50., 100.], [100., 0.]],
-    [[0., 0.], [50., 100.], [100., 0.], [100., 0.]],
-    [[0., 0.], [0., 0.], [100., 50.], [100., 50.]],
-    // ends whose derivatives are nearly zero
-    [[0., 0.], [3e-6, 0.], [50., 100.], [100., 0.]],
-    [[9., 0.], [5., 10.], [0., 3e-6], [0., 0.]],
-    // coincident points
-    [[0., 0.], [60., 60.], [60., 60.], [100., 0.]],
-    [[5., 5.], [80., 40.], [-40., 80.], [5., 5.]],
-    [[5., 5.], [5., 5.], [5., 5.], [100., 7.]],
-    [[5., 5.], [100., 7.], [100., 7.], [100., 7.]],
-    [[5., 5.], [5., 5.], [90., 7.], [5., 5.]],
-    [[5., 5.], [90., 7.], [90., 7.], [5., 5.]],
-    [[5., 5.], [5., 5.], [5., 5.], [5., 5.]],
-    [[0., -0.], [-0., 0.], [0., 0.], [-0., -0.]],
-    // a straight line, back and forth on one, past its ends
-    [[0., 0.], [30., 10.], [60., 20.], [90., 30.]],
-    [[0., 0.], [100., 0.], [-50., 0.], [40., 0.]],
-    [[0., 0.], [-50., -50.], [150., 150.], [100., 100.]],
-    // small ones
-    [[0., 0.], [1e-4, 2e-4], [3e-4, 2e-4], [4e-4, 0.]],
-    [[1., 1.], [1.0000001, 1.], [1., 1.0000001], [1.0000001, 1.0000001]],
-    [[0., 0.], [1e-40, 1e-39], [1e-38, 0.], [1e-30, 1e-20]],
-    // huge ones
-    [[-1e7, 0.], [1e7, 3e7], [2e7, -3e7], [1e7, 1e7]],
-    [[-3e38, 0.], [3e38, 3e38], [1e30, -3e38], [3e38, 1.]],
-];
-
 /// A side of a stroke from and to where the source would have it.
 fn curve(shape: [Point; 4], offset: f32, transform: [f32; 6]) -> Call {
     let [p0, p1, p2, p3] = shape;
@@ -282,7 +238,7 @@ fn curve(shape: [Point; 4], offset: f32, transform: [f32; 6]) -> Call {
 }
 
 fn curves(values: &mut Values) {
-    for shape in SHAPES {
+    for (_, shape) in SHAPES {
         for offset in [0., -0., 2.5, -2.5] {
             curve(shape, offset, IDENTITY).print();
         }
@@ -298,10 +254,10 @@ fn curves(values: &mut Values) {
         curve(shape, offset, TRANSFORMS[values.below(4) as usize]).print_in_all_ways(values);
     }
     for offset in [f32::NAN, f32::INFINITY, -f32::INFINITY, 1e30, -1e30, 1e-30, -1e-30] {
-        curve(SHAPES[0], offset, TRANSFORMS[1]).print();
+        curve(SHAPES[0].1, offset, TRANSFORMS[1]).print();
     }
     // Offsets on both sides of where they count as low.
-    for shape in &SHAPES[..4] {
+    for (_, shape) in &SHAPES[..4] {
         for offset in [0.05, 0.15, -0.15] {
             curve(*shape, offset, IDENTITY).print();
         }
@@ -313,7 +269,7 @@ fn curves(values: &mut Values) {
     curve(below, 2.5, still).print();
     for x in [f32::NAN, f32::INFINITY, -f32::INFINITY, 1e30, 1e-40] {
         for i in 0..4 {
-            let mut shape = SHAPES[0];
+            let mut shape = SHAPES[0].1;
             shape[i][0] = x;
             curve(shape, 0., IDENTITY).print();
             curve(shape, 2.5, IDENTITY).print();
@@ -321,7 +277,7 @@ fn curves(values: &mut Values) {
     }
     // Ends that are not where the curve's are.
     for _ in 0..8 {
-        let mut call = curve(SHAPES[0], values.within(20.), IDENTITY);
+        let mut call = curve(SHAPES[0].1, values.within(20.), IDENTITY);
         (call.points[4], call.points[5]) = (near(values, 200.), near(values, 200.));
         call.print();
     }

@@ -1,8 +1,15 @@
 //! The published Rust beside the proved library. See docs/ORACLE.md.
 
+pub mod compare;
+pub mod differ;
 pub mod drawing;
-pub mod sheet;
+mod encode;
+pub mod replay;
+mod scenes;
+mod shapes;
+mod sheet;
+mod shrink;
 pub mod spiral;
 pub mod stops;
-pub mod values;
+mod values;
 pub mod whole;

@@ -1,211 +1,108 @@
-//! Scenes for comparing whole calls: as an encoder would write them, and then, mostly, damaged.
+//! Scenes for comparing whole calls: sound ones, ones at an edge, and damaged ones, each with little room or enough.
 
 use vello_encoding::PathBbox;
 
+use crate::encode::Parts;
 use crate::values::Values;
 use crate::whole::{EMPTY_BOX, Given, scan};
 
-const PATH: u8 = 0x10;
-const TRANSFORM: u8 = 0x20;
-const STYLE: u8 = 0x40;
-const SUBPATH_END: u8 = 0x04;
-const F32: u8 = 0x08;
-
-/// What an encoder gathers.
-#[derive(Default)]
-struct Parts {
-    tags: Vec<u8>,
-    data: Vec<u32>,
-    transforms: Vec<u32>,
-    styles: Vec<u32>,
-    paths: usize,
-    /// The last point, to be met again now and then.
-    last: [f32; 2],
+/// A call, and the names of what is in it.
+pub struct Scene {
+    pub given: Given,
+    pub names: Vec<&'static str>,
 }
 
-impl Parts {
-    fn transform(&mut self, values: &mut Values) {
-        let z = match values.below(24) {
-            0 => std::array::from_fn(|_| values.any()),
-            1..6 => [1., 0., 0., 1., 0., 0.],
-            6..9 => [64., 0., 0., 64., 0., 0.],
-            _ => std::array::from_fn(|_| values.within(4.)),
-        };
-        self.transforms.extend(z.map(f32::to_bits));
-        self.tags.push(TRANSFORM);
-    }
-
-    /// Whether it is a stroke.
-    fn style(&mut self, values: &mut Values) -> bool {
-        let is_stroke = values.below(3) > 0;
-        let width = match values.below(32) {
-            0 => values.any(),
-            1..4 => 0.,
-            _ => values.within(16.),
-        };
-        // Any join and any caps, the joins with all bits set seldom, and some miter limit.
-        let join = if values.below(16) == 0 {
-            3
-        } else {
-            values.below(3) as u32
-        };
-        let flags = values.word() & 0x4f00_0000 | join << 28 | limit(values);
-        self.styles.push(flags | u32::from(is_stroke) << 31);
-        self.styles.push(width.to_bits());
-        self.tags.push(STYLE);
-        is_stroke
-    }
-
-    fn point(&mut self, values: &mut Values, tag: u8) {
-        let fresh: [f32; 2] = match values.below(192) {
-            0 => [values.any(), values.any()],
-            1..24 => self.last,
-            _ => [values.within(256.), values.within(256.)],
-        };
-        self.last = fresh;
-        if tag & F32 != 0 {
-            self.data.extend(fresh.map(f32::to_bits));
-        } else {
-            let [x, y] = fresh.map(|v| u32::from(v as i16 as u16));
-            self.data.push(x | y << 16);
-        }
-    }
-
-    /// A tag with as many points as it adds.
-    fn segment(&mut self, values: &mut Values, tag: u8) {
-        let points = (tag & 3) + u8::from(tag & SUBPATH_END != 0);
-        for _ in 0..points {
-            self.point(values, tag);
-        }
-        self.tags.push(tag);
-    }
-
-    fn subpath(&mut self, values: &mut Values, is_stroke: bool) {
-        let form = if values.below(2) == 0 { F32 } else { 0 };
-        let segments = values.below(5);
-        for _ in 0..segments {
-            let kind = 1 + values.below(3) as u8;
-            self.segment(values, kind | form);
-        }
-        // A stroke ends with a marker, a fill with its last segment.
-        let kind = match values.below(8) {
-            0 => 3,
-            n if is_stroke => 1 + (n % 2) as u8,
-            n => 1 + (n % 3) as u8,
-        };
-        self.segment(values, kind | form | SUBPATH_END);
-    }
-
-    fn path(&mut self, values: &mut Values, is_stroke: bool) {
-        for _ in 0..1 + values.below(3) {
-            self.subpath(values, is_stroke);
-        }
-        self.tags.push(PATH);
-        self.paths += 1;
-    }
-
-    fn new(values: &mut Values) -> Self {
-        let mut parts = Self::default();
-        parts.transform(values);
-        let mut is_stroke = parts.style(values);
-        // Seldom more than a workgroup's tags.
-        let paths = if values.below(32) == 0 {
-            64
-        } else {
-            1 + values.below(6)
-        };
-        for _ in 0..paths {
-            if values.below(3) == 0 {
-                parts.transform(values);
-            }
-            if values.below(2) == 0 {
-                is_stroke = parts.style(values);
-            }
-            parts.path(values, is_stroke);
-        }
-        parts
-    }
-}
-
-/// A binary16: 4, or any.
-fn limit(values: &mut Values) -> u32 {
-    if values.below(2) == 0 {
-        0x4400
-    } else {
-        values.word() & 0xffff
-    }
-}
+/// No room is above this, so that a huge curve ends.
+const MOST_LINES: usize = 800;
 
 /// The words of the tags, zeros behind, as many as the workgroups read.
 fn tag_words(tags: &[u8], n_wg: u32) -> Vec<u32> {
     let mut bytes = tags.to_vec();
-    bytes.resize((n_wg as usize * 256).max(tags.len().next_multiple_of(4)), 0);
+    bytes.resize(n_wg as usize * 256, 0);
     let (words, _) = bytes.as_chunks::<4>();
     words.iter().map(|w| u32::from_le_bytes(*w)).collect()
 }
 
-/// Puts a part behind the scene, after a gap, and says where.
-fn place(values: &mut Values, scene: &mut Vec<u32>, part: &[u32]) -> u32 {
-    for _ in 0..values.below(4) {
-        scene.push(values.word());
+/// Four parts one behind another, now and then in another order, with gaps: the words and where each part begins.
+fn placed(values: &mut Values, parts: [&[u32]; 4]) -> (Vec<u32>, [u32; 4]) {
+    let mut order = [0, 1, 2, 3];
+    if values.once_in(4) {
+        (1..4).for_each(|i| order.swap(i, values.below(i as u64 + 1) as usize));
     }
-    let base = scene.len() as u32;
-    scene.extend(part);
-    base
+    let (mut scene, mut bases) = (Vec::new(), [0; 4]);
+    for i in order {
+        scene.extend((0..values.below(3)).map(|_| values.word()));
+        bases[i] = scene.len() as u32;
+        scene.extend(parts[i]);
+    }
+    (scene, bases)
 }
 
-fn some_boxes(values: &mut Values, n: usize) -> Vec<PathBbox> {
-    let mut some = || PathBbox {
+fn some_box(values: &mut Values) -> PathBbox {
+    PathBbox {
         x0: values.word() as i32,
         y0: values.word() as i32,
         x1: values.word() as i32,
         y1: values.word() as i32,
         draw_flags: values.word(),
         trans_ix: values.word(),
-    };
-    (0..n)
-        .map(|i| if i % 2 == 0 { EMPTY_BOX } else { some() })
-        .collect()
+    }
 }
 
-/// The second word of each record is not 0.
-fn some_lines(values: &mut Values, n: usize) -> Vec<u32> {
-    let word = |i: usize, values: &mut Values| values.word() | u32::from(i % 6 == 1);
-    (0..n).map(|i| word(i, values)).collect()
-}
-
-fn sound(values: &mut Values) -> Given {
-    let parts = Parts::new(values);
+/// As an encoder would lend it, with no lines yet.
+fn sound(values: &mut Values, parts: &Parts) -> Given {
     let n_wg = parts.tags.len().div_ceil(256) as u32;
     let tags = tag_words(&parts.tags, n_wg);
-    let mut scene = Vec::new();
-    // The tags first or last: what is cut off then is different.
-    let tags_first = values.below(2) == 0;
-    let front = if tags_first { &tags[..] } else { &[] };
-    let mut tag_base = place(values, &mut scene, front);
-    let data_base = place(values, &mut scene, &parts.data);
-    let transform_base = place(values, &mut scene, &parts.transforms);
-    let style_base = place(values, &mut scene, &parts.styles);
-    if !tags_first {
-        tag_base = place(values, &mut scene, &tags);
-    }
+    let (scene, [tag_base, data_base, transform_base, style_base]) =
+        placed(values, [&tags, &parts.data, &parts.transforms, &parts.styles]);
     let mut prefixes = vec![0; 4 * tags.len()];
     scan(&scene, tag_base, &mut prefixes);
-    let boxes = some_boxes(values, parts.paths);
-    let lent = 6 * 1500 + values.below(6) as usize;
-    let lines = some_lines(values, lent);
-    Given {
-        n_wg,
-        tag_base,
-        data_base,
-        transform_base,
-        style_base,
-        scene,
-        prefixes,
-        boxes,
-        lines,
-    }
+    let boxes = (0..parts.paths).map(|i| if i % 4 == 3 { some_box(values) } else { EMPTY_BOX }).collect();
+    Given { n_wg, tag_base, data_base, transform_base, style_base, scene, prefixes, boxes, lines: Vec::new() }
 }
+
+/// A name and what is done to a call.
+type Done = (&'static str, fn(&mut Values, &mut Given));
+
+fn end(given: &Given) -> u32 {
+    given.scene.len() as u32
+}
+
+/// The words of the prefixes that a tag needs: those behind are only for tags of zeros.
+fn needed(given: &Given) -> usize {
+    let tags = given.scene.get(given.tag_base as usize..).unwrap_or_default();
+    let words = given.prefixes.len() / 4;
+    let last = tags.iter().take(words).rposition(|word| *word != 0);
+    last.map_or(0, |i| 4 * i + 4)
+}
+
+const EDGES: [(u64, Done); 18] = [
+    (1, ("the tag base at the scene's end", |_, g| g.tag_base = end(g))),
+    (1, ("the tag base one past the scene's end", |_, g| g.tag_base = end(g) + 1)),
+    (1, ("the data base at the scene's end", |_, g| g.data_base = end(g))),
+    (1, ("the data base one past the scene's end", |_, g| g.data_base = end(g) + 1)),
+    (1, ("the transform base at the scene's end", |_, g| g.transform_base = end(g))),
+    (1, ("the style base at the scene's end", |_, g| g.style_base = end(g))),
+    (1, ("the style base one past the scene's end", |_, g| g.style_base = end(g) + 1)),
+    (1, ("no workgroup", |_, g| g.n_wg = 0)),
+    (
+        1,
+        ("no workgroup and no scene", |_, g| {
+            g.n_wg = 0;
+            g.scene.clear();
+            (g.tag_base, g.data_base) = (0, 0);
+        }),
+    ),
+    (1, ("a workgroup more", |_, g| g.n_wg += 1)),
+    (1, ("the most workgroups", |_, g| g.n_wg = u32::MAX)),
+    (3, ("the scene one word short", |_, g| g.scene.truncate(g.scene.len() - 1))),
+    (3, ("prefixes just enough", |_, g| g.prefixes.truncate(needed(g)))),
+    (3, ("prefixes one word short", |_, g| g.prefixes.truncate(needed(g).saturating_sub(1)))),
+    (1, ("no prefixes", |_, g| g.prefixes.clear())),
+    (2, ("one box short", |_, g| g.boxes.truncate(g.boxes.len() - 1))),
+    (1, ("no boxes", |_, g| g.boxes.clear())),
+    (1, ("a box more", |v, g| g.boxes.push(some_box(v)))),
+];
 
 fn shorten<T>(values: &mut Values, list: &mut Vec<T>) {
     list.truncate(values.below(list.len() as u64 + 1) as usize);
@@ -223,21 +120,19 @@ fn damage_word(values: &mut Values, words: &mut [u32]) {
     };
 }
 
-/// A base elsewhere: near, at the scene's end or behind it, or near 2^32.
+/// Near where it was, near the scene's end, or near 2^32.
 fn damage_base(values: &mut Values, given: &mut Given) {
-    let end = given.scene.len() as u32;
-    let base = match values.below(4) {
-        0 => &mut given.tag_base,
-        1 => &mut given.data_base,
-        2 => &mut given.transform_base,
-        _ => &mut given.style_base,
-    };
+    let end = end(given);
+    let bases = [&mut given.tag_base, &mut given.data_base, &mut given.transform_base, &mut given.style_base];
     let near = values.below(5) as u32;
-    *base = match values.below(4) {
-        0 => end.wrapping_add(near).wrapping_sub(2),
-        1 => near.wrapping_sub(2),
-        _ => base.wrapping_add(near).wrapping_sub(2),
-    };
+    let which = values.below(4) as usize;
+    for base in bases.into_iter().skip(which).take(1) {
+        *base = match values.below(4) {
+            0 => end.wrapping_add(near).wrapping_sub(2),
+            1 => near.wrapping_sub(2),
+            _ => base.wrapping_add(near).wrapping_sub(2),
+        };
+    }
 }
 
 /// The styles' base far down and the prefixes' sums as far up: the flags' address wraps, the width's must not.
@@ -251,38 +146,90 @@ fn wrap_styles(given: &mut Given) {
     }
 }
 
-fn damage(values: &mut Values, given: &mut Given) {
-    match values.below(12) {
-        0 | 1 => damage_word(values, &mut given.scene),
-        2 => damage_word(values, &mut given.prefixes),
-        3 => shorten(values, &mut given.scene),
-        4 => shorten(values, &mut given.prefixes),
-        5 => shorten(values, &mut given.boxes),
-        6 | 7 => {
-            let most = values.below(300) as usize;
-            given.lines.truncate(most);
-        }
-        8 => damage_base(values, given),
-        9 => given.n_wg = values.below(3) as u32,
-        10 => wrap_styles(given),
-        _ => {
-            // A tag anew, the prefixes with it or not.
-            let tags = given.scene.get_mut(given.tag_base as usize..);
-            let tags = tags.unwrap_or_default();
-            let near = tags.len().min(24);
-            damage_word(values, &mut tags[..near]);
-            if values.below(2) == 0 {
-                scan(&given.scene, given.tag_base, &mut given.prefixes);
-            }
-        }
-    }
+/// One of the first words of tags, which are seldom zeros.
+fn damage_tag(values: &mut Values, given: &mut Given) {
+    let tags = given.scene.get_mut(given.tag_base as usize..).unwrap_or_default();
+    let few = tags.len().min(12);
+    damage_word(values, &mut tags[..few]);
 }
 
-/// Sound one time in four.
-pub fn scene(values: &mut Values) -> Given {
-    let mut given = sound(values);
-    for _ in 0..values.below(4) {
-        damage(values, &mut given);
+fn damage_tag_and_scan(values: &mut Values, given: &mut Given) {
+    damage_tag(values, given);
+    scan(&given.scene, given.tag_base, &mut given.prefixes);
+}
+
+const DAMAGES: [(u64, Done); 9] = [
+    (4, ("any word of the scene", |v, g| damage_word(v, &mut g.scene))),
+    (2, ("any word of the prefixes", |v, g| damage_word(v, &mut g.prefixes))),
+    (1, ("a scene cut short", |v, g| shorten(v, &mut g.scene))),
+    (1, ("prefixes cut short", |v, g| shorten(v, &mut g.prefixes))),
+    (1, ("boxes cut short", |v, g| shorten(v, &mut g.boxes))),
+    (3, ("a base elsewhere", damage_base)),
+    (1, ("styles that wrap", |_, g| wrap_styles(g))),
+    (1, ("a tag anew with old prefixes", damage_tag)),
+    (3, ("a tag anew", damage_tag_and_scan)),
+];
+
+/// The words lent for lines, where so many lines would be stored.
+type Room = (&'static str, fn(&mut Values, usize) -> usize);
+
+const ROOMS: [(u64, Room); 7] = [
+    (12, ("room to spare", |v, lines| 6 * lines + v.below(20) as usize)),
+    (8, ("room exactly full", |_, lines| 6 * lines)),
+    (2, ("room one word short", |_, lines| (6 * lines).saturating_sub(1))),
+    (2, ("room one line short", |_, lines| (6 * lines).saturating_sub(6))),
+    (2, ("less room", |v, lines| 6 * lines - v.below(3 * lines as u64 + 1) as usize)),
+    (1, ("little room", |v, _| v.below(13) as usize)),
+    (1, ("no room", |_, _| 0)),
+];
+
+/// The second word of each record is not 0.
+fn some_lines(values: &mut Values, n: usize) -> Vec<u32> {
+    let word = values.word();
+    (0..n as u32).map(|i| word.wrapping_mul(i) | u32::from(i % 6 == 1)).collect()
+}
+
+/// The scene of an index: the same whatever others are made.
+pub fn scene(seed: u64, index: u64) -> Scene {
+    let values = &mut Values::at(seed, index);
+    let mut parts = Parts::new(values);
+    let mut given = sound(values, &parts);
+    let names = &mut parts.names;
+    let mut apply = |values: &mut Values, table: &[(u64, Done)]| {
+        let (name, change) = *values.pick(table);
+        names.push(name);
+        change(values, &mut given);
+    };
+    match values.below(16) {
+        0..10 => (),
+        10..12 => apply(values, &EDGES),
+        12..15 => apply(values, &DAMAGES),
+        _ => (0..2 + values.below(3)).for_each(|_| apply(values, &DAMAGES)),
     }
-    given
+    let (name, room) = *values.pick(&ROOMS);
+    parts.names.push(name);
+    let lent = room(values, given.lines_stored(MOST_LINES));
+    given.lines = some_lines(values, lent);
+    Scene { given, names: parts.names }
+}
+
+#[cfg(test)]
+mod tests {
+    use super::*;
+    use crate::{encode, stops};
+
+    /// Every entry of the tables comes up, and the second word of no lent record is 0.
+    #[test]
+    fn all_is_made() {
+        stops::watch();
+        let scenes: Vec<Scene> = (0..4000).map(|index| scene(1, index)).collect();
+        let made = |name: &str| scenes.iter().any(|scene| scene.names.contains(&name));
+        let of_tables = EDGES.iter().chain(&DAMAGES).map(|entry| entry.1.0).chain(ROOMS.iter().map(|entry| entry.1.0));
+        for name in of_tables.chain(encode::names()) {
+            assert!(made(name), "{name}");
+        }
+        for Scene { given, .. } in &scenes {
+            assert!(given.lines.iter().skip(1).step_by(6).all(|word| *word != 0));
+        }
+    }
 }

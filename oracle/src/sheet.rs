@@ -5,6 +5,9 @@ use vello_encoding::LineSoup;
 /// What a list lends. No stored line has it in its second word, which is 0.
 pub const FILL: u32 = 0xa5a5_a5a5;
 
+/// A line that is not stored.
+pub const UNSTORED: LineSoup = LineSoup { path_ix: FILL, _padding: FILL, p0: [0.; 2], p1: [0.; 2] };
+
 /// Whole records, and the words left over, which no call can reach.
 pub struct Sheet {
     lines: Vec<LineSoup>,
@@ -15,6 +18,17 @@ fn words_of(line: &LineSoup) -> [u32; 6] {
     let [x0, y0] = line.p0.map(f32::to_bits);
     let [x1, y1] = line.p1.map(f32::to_bits);
     [line.path_ix, line._padding, x0, y0, x1, y1]
+}
+
+/// How many lines are stored: the source's count is not kept past a panic, the lines are.
+pub fn stored(lines: &[LineSoup]) -> usize {
+    lines.iter().take_while(|line| line._padding == 0).count()
+}
+
+/// FNV-1a, 32 bits, taken a word at a time.
+pub fn hash(words: &[u32]) -> u32 {
+    let step = |hash: u32, w: &u32| (hash ^ w).wrapping_mul(16_777_619);
+    words.iter().fold(0x811c_9dc5, step)
 }
 
 impl Sheet {
@@ -39,15 +53,9 @@ impl Sheet {
         lines.chain(self.left_over.iter().copied()).collect()
     }
 
-    /// The lines stored behind the first ones: the source's count is not kept past a panic, the lines are.
+    /// The lines stored behind the first ones.
     pub fn stored_from(&self, first: usize) -> Vec<[u32; 6]> {
-        let lines = self.lines.iter().skip(first).map(words_of);
-        lines.take_while(|w| w[1] == 0).collect()
-    }
-
-    /// FNV-1a, 32 bits, taken a word at a time.
-    pub fn hash(&self) -> u32 {
-        let step = |hash: u32, w: u32| (hash ^ w).wrapping_mul(16_777_619);
-        self.words().into_iter().fold(0x811c_9dc5, step)
+        let lines = self.lines.get(first..).unwrap_or_default();
+        lines[..stored(lines)].iter().map(words_of).collect()
     }
 }

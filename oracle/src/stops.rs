@@ -31,7 +31,8 @@ type Places = HashMap<(&'static str, u32), u32>;
 
 fn places() -> Places {
     let mut places = Places::new();
-    for (file, text) in published::TEXTS {
+    let texts = published::TEXTS.into_iter().chain(shipped::TEXTS);
+    for (file, text) in texts.chain([published::TAG_BY_TAG]) {
         for (line, i) in text.lines().zip(1..) {
             if let Some((_, number)) = CAUSES.iter().find(|(part, _)| line.contains(part)) {
                 places.insert((file, i), *number);

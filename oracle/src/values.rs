@@ -1,4 +1,4 @@
-//! The arguments of the vectors: the same at every run.
+//! Numbers that are the same at every run.
 
 /// Zeros of both signs, the ends of the subnormals, the least normal, 1, the largest, the infinities, a NaN, and sizes
 /// between.
@@ -36,6 +36,12 @@ impl Values {
         Self(seed)
     }
 
+    /// Those of one index, whatever those of others are.
+    pub fn at(seed: u64, index: u64) -> Self {
+        let first = Self(seed).next();
+        Self(Self(first ^ index.wrapping_mul(0xd134_2543_de82_ef95)).next())
+    }
+
     /// SplitMix64.
     fn next(&mut self) -> u64 {
         self.0 = self.0.wrapping_add(0x9e37_79b9_7f4a_7c15);
@@ -47,6 +53,23 @@ impl Values {
     /// Below n.
     pub fn below(&mut self, n: u64) -> u64 {
         self.next() % n
+    }
+
+    /// One time in n.
+    pub fn once_in(&mut self, n: u64) -> bool {
+        self.below(n) == 0
+    }
+
+    /// An entry of a table, as often as its weight says.
+    pub fn pick<'a, T>(&mut self, table: &'a [(u64, T)]) -> &'a T {
+        let mut left = self.below(table.iter().map(|entry| entry.0).sum());
+        for (weight, entry) in table {
+            if left < *weight {
+                return entry;
+            }
+            left -= weight;
+        }
+        unreachable!("the weights sum up")
     }
 
     pub fn word(&mut self) -> u32 {

@@ -1,12 +1,14 @@
 //! The whole call of the source: what it answers, what it stores, and what it merges.
 
+use std::cell::RefCell;
+
 use vello_encoding::{BumpAllocators, ConfigUniform, Layout, LineSoup, Monoid, PathBbox, PathMonoid};
 
-use crate::sheet::Sheet;
+use crate::sheet::{Sheet, UNSTORED, stored};
 use crate::stops;
 
 /// What a call is given and lent. Prefixes and lines are words, of which some may be left over.
-#[derive(Clone)]
+#[derive(Clone, Debug, PartialEq, Eq)]
 pub struct Given {
     pub n_wg: u32,
     pub tag_base: u32,
@@ -32,7 +34,8 @@ pub struct Told {
     pub boxes: Vec<PathBbox>,
 }
 
-type Main = fn(u32, &ConfigUniform, &[u32], &[PathMonoid], &mut [PathBbox], &mut BumpAllocators, &mut [LineSoup]);
+/// The main function of a build of the published Rust.
+pub type Main = fn(u32, &ConfigUniform, &[u32], &[PathMonoid], &mut [PathBbox], &mut BumpAllocators, &mut [LineSoup]);
 
 /// The box of a path with no line yet.
 pub const EMPTY_BOX: PathBbox =
@@ -51,30 +54,53 @@ impl Given {
         }
     }
 
-    /// What the source does with so many workgroups. The tag in turn is not seen.
-    fn run(&self, main: Main, n_wg: u32) -> Told {
+    pub fn show(&self) {
+        let hex = |words: &[u32]| words.iter().map(|w| format!(" {w:08x}")).collect::<String>();
+        let bases = [self.tag_base, self.data_base, self.transform_base, self.style_base];
+        println!("  workgroups {:08x}, bases of tags, data, transforms, styles{}", self.n_wg, hex(&bases));
+        println!("  scene{}", hex(&self.scene));
+        println!("  prefixes{}", hex(&self.prefixes));
+        println!("  lines lent{}", hex(&self.lines));
+        println!("  boxes {:?}", self.boxes);
+    }
+
+    /// Runs the source with so many workgroups. The number told, and the count if it is 0.
+    pub fn call(&self, main: Main, n_wg: u32, boxes: &mut [PathBbox], lines: &mut [LineSoup]) -> (u32, u32) {
         let config = self.config();
         let (prefixes, _) = self.prefixes.as_chunks::<4>();
         let prefixes: Vec<_> = prefixes.iter().map(prefix_of).collect();
-        let mut boxes = self.boxes.clone();
-        let mut sheet = Sheet::new(&self.lines);
         let mut bump = BumpAllocators::default();
-        let number = stops::number_of(|| {
-            main(n_wg, &config, &self.scene, &prefixes, &mut boxes, &mut bump, sheet.lines());
-        });
-        let count = sheet.stored_from(0).len() as u64;
-        if number == 0 {
-            assert_eq!(u64::from(bump.lines), count);
-        }
-        Told { number, tag: 0, count, lines: sheet.words(), boxes }
+        let number = stops::number_of(|| main(n_wg, &config, &self.scene, &prefixes, boxes, &mut bump, lines));
+        (number, bump.lines)
     }
 
-    /// How many tags can be done, one after another, before the one at which the source panics.
-    fn tags_done(&self) -> u32 {
-        let stops = |tags: u32| self.run(published::reach_tag_by_tag, tags).number != 0;
-        let (mut done, mut stopped) = (0, self.n_wg * 256);
+    /// How many lines the source stores with so much room, whatever is lent.
+    pub fn lines_stored(&self, room: usize) -> usize {
+        thread_local! {
+            static LINES: RefCell<Vec<LineSoup>> = const { RefCell::new(Vec::new()) };
+        }
+        LINES.with_borrow_mut(|lines| {
+            lines.resize(room, UNSTORED);
+            self.call(published::reach_main, self.n_wg, &mut self.boxes.clone(), lines);
+            let count = stored(lines);
+            lines[..count].fill(UNSTORED);
+            count
+        })
+    }
+
+    /// How many tags can be done, one after another, before the one at which the source panics. A good guess makes it
+    /// quick; whether it is right is asked of the source.
+    fn tags_done(&self, guess: u64) -> u64 {
+        let mut boxes = self.boxes.clone();
+        let mut sheet = Sheet::new(&self.lines);
+        let mut stops =
+            |tags: u64| self.call(published::reach_tag_by_tag, tags as u32, &mut boxes, sheet.lines()).0 != 0;
+        // No tag is behind the scene's end.
+        let (mut done, mut stopped) = (0, (u64::from(self.n_wg) * 256).min(4 * self.scene.len() as u64 + 1));
+        let mut guesses = [guess, guess + 1].into_iter();
         while stopped - done > 1 {
-            let middle = (done + stopped) / 2;
+            let between = guesses.find(|tags| (done + 1..stopped).contains(tags));
+            let middle = between.unwrap_or((done + stopped) / 2);
             if stops(middle) {
                 stopped = middle;
             } else {
@@ -84,13 +110,17 @@ impl Given {
         done
     }
 
-    pub fn told(&self) -> Told {
-        let mut told = self.run(published::reach_main, self.n_wg);
-        // The bases are looked at before any tag.
-        if told.number > 1 {
-            told.tag = u64::from(self.tags_done());
+    pub fn told(&self, guess: u64) -> Told {
+        let mut boxes = self.boxes.clone();
+        let mut sheet = Sheet::new(&self.lines);
+        let (number, counted) = self.call(published::reach_main, self.n_wg, &mut boxes, sheet.lines());
+        let count = stored(sheet.lines()) as u64;
+        if number == 0 {
+            assert_eq!(u64::from(counted), count);
         }
-        told
+        // The bases are looked at before any tag.
+        let tag = if number > 1 { self.tags_done(guess) } else { 0 };
+        Told { number, tag, count, lines: sheet.words(), boxes }
     }
 }
 
@@ -117,6 +147,8 @@ pub fn scan(scene: &[u32], tag_base: u32, prefixes: &mut [u32]) -> (u32, u64) {
 /// The measured examples of the whole call.
 #[cfg(test)]
 mod tests {
+    use published::ours::Ours;
+
     use super::*;
 
     fn triangle() -> Given {
@@ -146,7 +178,7 @@ mod tests {
 
         fn answer(&self) -> (u32, u64, u64) {
             stops::watch();
-            let told = self.told();
+            let told = self.told(0);
             (told.number, told.tag, told.count)
         }
     }
@@ -157,7 +189,7 @@ mod tests {
     fn the_triangle() {
         let given = triangle();
         assert_eq!(given.answer(), (0, 0, 3));
-        let told = given.told();
+        let told = given.told(0);
         let [zero, three, six] = [0, 0x4040_0000, 0x40c0_0000];
         assert_eq!(told.lines[..6], [0, 0, zero, zero, three, zero]);
         assert_eq!(told.lines[6..12], [0, 0, three, zero, zero, six]);
@@ -172,7 +204,7 @@ mod tests {
         given.lines.truncate(12);
         given.boxes[0].draw_flags = 9;
         assert_eq!(given.answer(), (6, 4, 2));
-        assert_eq!(given.told().boxes, [PathBbox { draw_flags: 9, ..BOX }]);
+        assert_eq!(given.told(0).boxes, [PathBbox { draw_flags: 9, ..BOX }]);
     }
 
     #[test]
@@ -224,5 +256,17 @@ mod tests {
         assert_eq!(stroke(0x8000_0000, 1., 0x05).answer(), (0, 0, 4));
         assert_eq!(stroke(0x8000_0000, f32::NAN, 0x06).answer(), (5, 2, 0));
         assert_eq!(stroke(0xb000_0000, 1., 0x05).answer(), (7, 2, 2));
+    }
+
+    /// The ceiling and the floor that the source is given are std's.
+    #[test]
+    fn floors() {
+        for x in (0..=u32::MAX).step_by(997).chain([0, 1 << 31, 1, 0x7f80_0000]).map(f32::from_bits) {
+            let (floor, ceil) = (Ours::floor(x), Ours::ceil(x));
+            assert!(
+                x.is_nan() || (floor.to_bits(), ceil.to_bits()) == (x.floor().to_bits(), x.ceil().to_bits()),
+                "{x}"
+            );
+        }
     }
 }

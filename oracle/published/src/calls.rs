@@ -6,7 +6,6 @@ use crate::cpu::euler::{CubicParams, EulerParams, EulerSeg, espc_int_approx, esp
 pub use crate::cpu::flatten::Pen;
 use crate::cpu::flatten::{reach_arc, reach_cap, reach_euler, reach_join};
 use crate::cpu::util::{Transform, Vec2};
-use crate::ours::Ours;
 
 pub const ARC: u32 = 1;
 pub const CAP: u32 = 2;
@@ -95,9 +94,4 @@ pub fn answer(call: u32, v: &Numbers) -> [f32; 4] {
         21 => number(espc_int_inv_approx(v[0])),
         _ => unreachable!(),
     }
-}
-
-/// The floor and the ceiling that the files are given, to be compared with std's.
-pub fn floor_and_ceil(x: f32) -> (f32, f32) {
-    (x.floor(), x.ceil())
 }

@@ -9,16 +9,14 @@ extern crate core as std;
 pub mod calls;
 #[path = "../../cpu.rs"]
 mod cpu;
-mod ours;
+pub mod ours;
 
+pub use cpu::TEXTS;
 pub use cpu::flatten::reach_main;
 
 /// The same function with workgroups of one tag.
 pub use cpu::tag_by_tag::reach_main as reach_tag_by_tag;
 
-/// The files as they were compiled, to find the line of a panic in.
-pub const TEXTS: [(&str, &str); 3] = [
-    (concat!(env!("OUT_DIR"), "/util.rs"), include_str!(concat!(env!("OUT_DIR"), "/util.rs"))),
-    (concat!(env!("OUT_DIR"), "/flatten.rs"), include_str!(concat!(env!("OUT_DIR"), "/flatten.rs"))),
-    (concat!(env!("OUT_DIR"), "/tag_by_tag.rs"), include_str!(concat!(env!("OUT_DIR"), "/tag_by_tag.rs"))),
-];
+/// The file that it is in.
+pub const TAG_BY_TAG: (&str, &str) =
+    (concat!(env!("OUT_DIR"), "/tag_by_tag.rs"), include_str!(concat!(env!("OUT_DIR"), "/tag_by_tag.rs")));

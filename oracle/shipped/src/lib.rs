@@ -3,4 +3,5 @@
 #[path = "../../cpu.rs"]
 mod cpu;
 
+pub use cpu::TEXTS;
 pub use cpu::flatten::reach_main;

@@ -3,15 +3,16 @@
 use std::env;
 use std::process::ExitCode;
 
-use oracle::{drawing, spiral, stops};
+use oracle::{drawing, replay, spiral, stops};
 
 fn main() -> ExitCode {
     stops::watch();
     match env::args().nth(1).as_deref() {
         Some("spiral") => spiral::list(),
         Some("drawing") => drawing::list(),
+        Some("scenes") => replay::list(),
         _ => {
-            eprintln!("usage: lists spiral | drawing");
+            eprintln!("usage: lists spiral | drawing | scenes");
             return ExitCode::from(2);
         }
     }

@@ -1,0 +1,94 @@
+//! Writes the list that crates/replay_scenes replays: whole calls, what is told and the hashes of what is left.
+
+use std::collections::BTreeMap;
+
+use vello_encoding::PathBbox;
+
+use crate::scenes::scene;
+use crate::sheet::{FILL, hash};
+use crate::whole::{Given, Told, scan};
+
+/// The seed of the scenes, and how many are looked at.
+const SEED: u64 = 8;
+const SCENES: u64 = 20_000;
+
+/// Every name is in so many scenes of the list, and every number told, or in all there are.
+const OF_EACH_NAME: u64 = 5;
+const OF_EACH_NUMBER: u64 = 40;
+
+/// The replaying program lends no more scene words, prefix words, boxes and line words.
+const MOST: [usize; 4] = [4096, 4096, 64, 6000];
+
+fn hex(words: &[u32]) -> String {
+    words.iter().map(|w| format!("{w:08x}")).collect::<Vec<_>>().join(" ")
+}
+
+/// Words with runs: `00000000*0000003e` stands for 62 zeros.
+fn with_runs(words: &[u32]) -> String {
+    let run = |run: &[u32]| match run {
+        [word, _, _, ..] => format!("{word:08x}*{:08x}", run.len()),
+        _ => hex(run),
+    };
+    let entries: Vec<String> = words.chunk_by(|a, b| a == b).map(run).collect();
+    let lines: Vec<String> = entries.chunks(16).map(|line| line.join(" ")).collect();
+    lines.join("\n")
+}
+
+/// The prefix words lent are those of a scan, but for these.
+fn patches(given: &Given, scanned: &[u32]) -> Vec<u32> {
+    let both = given.prefixes.iter().zip(scanned).zip(0..);
+    both.filter(|((word, scanned), _)| word != scanned).flat_map(|((word, _), i)| [i, *word]).collect()
+}
+
+fn box_words(boxes: &[PathBbox]) -> Vec<u32> {
+    let words = |b: &PathBbox| [b.x0 as u32, b.y0 as u32, b.x1 as u32, b.y1 as u32, b.draw_flags, b.trans_ix];
+    boxes.iter().flat_map(words).collect()
+}
+
+fn fits(given: &Given) -> bool {
+    let lent = [given.scene.len(), given.prefixes.len(), given.boxes.len(), given.lines.len()];
+    lent.iter().zip(MOST).all(|(lent, most)| *lent <= most)
+}
+
+/// A call as the list has it.
+fn print(given: &Given, told: &Told) {
+    let mut scanned = vec![FILL; given.prefixes.len()];
+    let (scan_number, scan_count) = scan(&given.scene, given.tag_base, &mut scanned);
+    let patches = patches(given, &scanned);
+    let bases = [given.n_wg, given.tag_base, given.data_base, given.transform_base, given.style_base];
+    let lent = [given.scene.len(), given.prefixes.len(), given.boxes.len(), given.lines.len(), patches.len() / 2];
+    let of_scan = [scan_number, scan_count as u32, hash(&scanned)];
+    let of_call = [told.number, told.tag as u32, told.count as u32, hash(&told.lines), hash(&box_words(&told.boxes))];
+    println!("{}", hex(&[&bases[..], &lent.map(|n| n as u32), &of_scan, &of_call].concat()));
+    for part in [&given.scene, &patches, &box_words(&given.boxes)] {
+        if !part.is_empty() {
+            println!("{}", with_runs(part));
+        }
+    }
+}
+
+/// Whether the count of any of these is still low. Counts them if so.
+fn is_wanted<'a>(counts: &mut BTreeMap<&'a str, u64>, names: &[&'a str], least: u64) -> bool {
+    let is_low = names.iter().any(|name| counts.get(name).is_none_or(|count| *count < least));
+    if is_low {
+        names.iter().for_each(|name| *counts.entry(name).or_default() += 1);
+    }
+    is_low
+}
+
+/// What is told, as a name.
+const NUMBERS: [&str; 8] = ["0", "1", "2", "3", "4", "5", "6", "7"];
+
+pub fn list() {
+    let (mut names, mut numbers) = (BTreeMap::new(), BTreeMap::new());
+    for index in 0..SCENES {
+        let mut scene = scene(SEED, index);
+        scene.given.lines.fill(FILL);
+        let told = scene.given.told(0);
+        let is_new = is_wanted(&mut names, &scene.names, OF_EACH_NAME);
+        let number = [NUMBERS[told.number as usize]];
+        if fits(&scene.given) && (is_wanted(&mut numbers, &number, OF_EACH_NUMBER) || is_new) {
+            print(&scene.given, &told);
+        }
+    }
+}
