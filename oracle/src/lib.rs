@@ -2,6 +2,7 @@
 
 pub mod compare;
 pub mod differ;
+pub mod drafts;
 pub mod drawing;
 mod encode;
 pub mod replay;
