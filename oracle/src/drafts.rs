@@ -5,18 +5,9 @@ use std::f32::consts::TAU;
 use hinthevoun::Layout;
 use vello_encoding::Style;
 
+use crate::shapes::Point;
+use crate::tags::{self, F32, LINE, PATH, QUAD, STYLE, SUBPATH_END, TRANSFORM};
 use crate::values::Values;
-
-type Point = [f32; 2];
-
-// A segment's tag holds the number of the points behind its first one.
-const LINE: u8 = 1;
-const QUAD: u8 = 2;
-const END: u8 = 4;
-const F32: u8 = 8;
-const PATH: u8 = 0x10;
-const TRANSFORM: u8 = 0x20;
-const STYLE: u8 = 0x40;
 
 const FILL: u32 = 0;
 /// 4 as a binary16.
@@ -74,21 +65,21 @@ impl Draft {
     /// The outline ends where it starts.
     fn filled(&mut self, outline: &Outline) {
         self.segments(outline);
-        *self.tags.last_mut().expect("an outline has segments") |= END;
+        *self.tags.last_mut().expect("an outline has segments") |= SUBPATH_END;
     }
 
     /// The marker behind holds the start and the first tangent, for the caps.
     fn open_stroke(&mut self, outline: &Outline) {
         self.segments(outline);
         self.points(&[outline.start, outline.segments[0][0]]);
-        self.tags.push(F32 | QUAD | END);
+        self.tags.push(F32 | QUAD | SUBPATH_END);
     }
 
     /// The outline ends where it starts; the marker behind holds the first tangent, for the last join.
     fn closed_stroke(&mut self, outline: &Outline) {
         self.segments(outline);
         self.points(&[outline.segments[0][0]]);
-        self.tags.push(F32 | LINE | END);
+        self.tags.push(F32 | LINE | SUBPATH_END);
     }
 
     fn end(&mut self) {
@@ -97,11 +88,8 @@ impl Draft {
     }
 
     /// Whole workgroups of tags, then the points, the transforms and the styles.
-    fn encoded(mut self) -> Encoded {
-        self.tags.resize(self.tags.len().next_multiple_of(256), 0);
-        let n_wg = (self.tags.len() / 256) as u32;
-        let (words, _) = self.tags.as_chunks::<4>();
-        let mut scene: Vec<u32> = words.iter().map(|tags| u32::from_le_bytes(*tags)).collect();
+    fn encoded(self) -> Encoded {
+        let (n_wg, mut scene) = tags::workgroups(&self.tags);
         let data_base = scene.len() as u32;
         scene.extend(self.data);
         let transform_base = scene.len() as u32;

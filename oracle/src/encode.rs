@@ -3,16 +3,8 @@
 use std::f32::consts::PI;
 
 use crate::shapes::{Point, SHAPES};
+use crate::tags::{CUBIC, F32, LINE, PATH, QUAD, STYLE, SUBPATH_END, TRANSFORM};
 use crate::values::Values;
-
-const PATH: u8 = 0x10;
-const TRANSFORM: u8 = 0x20;
-const STYLE: u8 = 0x40;
-const SUBPATH_END: u8 = 0x04;
-const F32: u8 = 0x08;
-const LINE: u8 = 1;
-const QUAD: u8 = 2;
-const CUBIC: u8 = 3;
 
 /// A name and how such a thing is made.
 pub type Made<T> = (&'static str, fn(&mut Values) -> T);

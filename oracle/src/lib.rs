@@ -12,5 +12,6 @@ mod sheet;
 mod shrink;
 pub mod spiral;
 pub mod stops;
+mod tags;
 mod values;
 pub mod whole;

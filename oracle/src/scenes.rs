@@ -3,6 +3,7 @@
 use vello_encoding::PathBbox;
 
 use crate::encode::Parts;
+use crate::tags;
 use crate::values::Values;
 use crate::whole::{EMPTY_BOX, Given, scan};
 
@@ -14,14 +15,6 @@ pub struct Scene {
 
 /// No room is above this, so that a huge curve ends.
 const MOST_LINES: usize = 800;
-
-/// The words of the tags, zeros behind, as many as the workgroups read.
-fn tag_words(tags: &[u8], n_wg: u32) -> Vec<u32> {
-    let mut bytes = tags.to_vec();
-    bytes.resize(n_wg as usize * 256, 0);
-    let (words, _) = bytes.as_chunks::<4>();
-    words.iter().map(|w| u32::from_le_bytes(*w)).collect()
-}
 
 /// Four parts one behind another, now and then in another order, with gaps: the words and where each part begins.
 fn placed(values: &mut Values, parts: [&[u32]; 4]) -> (Vec<u32>, [u32; 4]) {
@@ -51,8 +44,7 @@ fn some_box(values: &mut Values) -> PathBbox {
 
 /// As an encoder would lend it, with no lines yet.
 fn sound(values: &mut Values, parts: &Parts) -> Given {
-    let n_wg = parts.tags.len().div_ceil(256) as u32;
-    let tags = tag_words(&parts.tags, n_wg);
+    let (n_wg, tags) = tags::workgroups(&parts.tags);
     let (scene, [tag_base, data_base, transform_base, style_base]) =
         placed(values, [&tags, &parts.data, &parts.transforms, &parts.styles]);
     let mut prefixes = vec![0; 4 * tags.len()];

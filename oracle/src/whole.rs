@@ -124,7 +124,7 @@ impl Given {
     }
 }
 
-fn prefix_of(w: &[u32; 4]) -> PathMonoid {
+pub fn prefix_of(w: &[u32; 4]) -> PathMonoid {
     PathMonoid { path_ix: w[0], trans_ix: w[1], style_ix: w[2], pathseg_offset: w[3] }
 }
 

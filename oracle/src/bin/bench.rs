@@ -6,7 +6,7 @@ use std::time::{Duration, Instant};
 
 use hinthevoun::{Layout, PathBox};
 use oracle::drafts::{Encoded, Figures};
-use oracle::whole::EMPTY_BOX;
+use oracle::whole::{EMPTY_BOX, prefix_of};
 use vello_encoding::{BumpAllocators, ConfigUniform, LineSoup, PathBbox, PathMonoid};
 
 /// How long the rounds of one sheet may take, and the least number of them.
@@ -47,8 +47,7 @@ impl Desk {
         let mut prefixes = vec![0; n_wg as usize * 256];
         hinthevoun::scan(&sheet.scene, tag_base, &mut prefixes).expect("a sheet can be scanned");
         let (words, _) = prefixes.as_chunks::<4>();
-        let monoid = |w: &[u32; 4]| PathMonoid { path_ix: w[0], trans_ix: w[1], style_ix: w[2], pathseg_offset: w[3] };
-        let monoids = words.iter().map(monoid).collect();
+        let monoids = words.iter().map(prefix_of).collect();
         Self {
             rust_boxes: vec![EMPTY_BOX; sheet.paths],
             port_boxes: vec![PathBox::EMPTY; sheet.paths],
