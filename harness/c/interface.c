@@ -64,10 +64,10 @@ static uint32_t scan(uint32_t tag_base, size_t out_len) {
     return hinth_scan(triangle, SCENE_LEN, tag_base, prefixes, 4 * SCENE_LEN + 1, out, out_len);
 }
 
-static uint32_t flatten(uint32_t data_base, size_t n_boxes, size_t line_words) {
+static uint32_t flatten(uint32_t data_base, size_t n_boxes, size_t line_words, size_t out_len) {
     scan(0, 0);
     return hinth_flatten(1, 0, data_base, 68, 74, triangle, SCENE_LEN, prefixes, 4 * SCENE_LEN, &box, n_boxes, lines,
-                         line_words, out, 2);
+                         line_words, out, out_len);
 }
 
 static void paths(void) {
@@ -79,13 +79,15 @@ static void paths(void) {
     CHECK(scan(SCENE_LEN, 1) == 0 && out[0] == 0 && prefixes[0] == MARK);
     CHECK(scan(SCENE_LEN + 1, 1) == 1 && out[0] == 0 && prefixes[0] == MARK);
     CHECK(scan(0, 0) == 0 && out[0] == MARK);
-    CHECK(flatten(64, 1, 19) == 0 && out[0] == 0 && out[1] == 3 && out[2] == MARK);
+    CHECK(flatten(64, 1, 19, 2) == 0 && out[0] == 0 && out[1] == 3 && out[2] == MARK);
     CHECK(stored(18) && boxed(0, 0));
-    CHECK(flatten(64, 1, 12) == 6 && out[0] == 4 && out[1] == 2);
+    CHECK(flatten(64, 1, 19, 1) == 0 && out[0] == MARK && out[1] == MARK && stored(18) && boxed(0, 0));
+    CHECK(flatten(64, 1, 19, 3) == 0 && out[1] == 3 && out[2] == MARK);
+    CHECK(flatten(64, 1, 12, 2) == 6 && out[0] == 4 && out[1] == 2);
     CHECK(stored(12) && boxed(7, 7));
-    CHECK(flatten(64, 0, 19) == 4 && out[0] == 5 && out[1] == 3);
+    CHECK(flatten(64, 0, 19, 2) == 4 && out[0] == 5 && out[1] == 3);
     CHECK(stored(18) && box.x0 == INT32_MAX);
-    CHECK(flatten(SCENE_LEN + 1, 1, 19) == 1 && out[0] == 0 && out[1] == 0 && stored(0));
+    CHECK(flatten(SCENE_LEN + 1, 1, 19, 2) == 1 && out[0] == 0 && out[1] == 0 && stored(0));
 }
 
 int main(void) {
