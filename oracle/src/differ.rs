@@ -52,6 +52,11 @@ fn lines_differ(given: &Given) -> bool {
     ours.0 == 0 && stds.0 == 0 && ours.1 != stds.1
 }
 
+/// An address passes 2^32 - 1: a panic only where overflow is looked for.
+fn address_wraps(given: &Given) -> bool {
+    lines_of(published::reach_main, given).0 == 2 && lines_of(shipped::reach_main, given).0 == 0
+}
+
 /// Shows the smallest call for which something holds.
 fn show_call(name: &str, holds: &dyn Fn(&Given) -> bool) {
     let first = (0..).map(|index| scene(1, index).given).find(|given| holds(given));
@@ -62,6 +67,7 @@ fn show_call(name: &str, holds: &dyn Fn(&Given) -> bool) {
 pub fn show() {
     FUNCTIONS.iter().for_each(show_function);
     show_call("other lines than with std's mathematics", &lines_differ);
+    show_call("accepted by the Rust without overflow checks", &address_wraps);
     for number in 1..=7 {
         show_call(&format!("refusal {number}"), &|given| given.told(0).number == number);
     }

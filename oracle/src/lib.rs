@@ -5,6 +5,7 @@ pub mod differ;
 pub mod drafts;
 pub mod drawing;
 mod encode;
+mod hex;
 pub mod replay;
 mod scenes;
 mod shapes;

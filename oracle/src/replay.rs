@@ -4,6 +4,7 @@ use std::collections::BTreeMap;
 
 use vello_encoding::PathBbox;
 
+use crate::hex::{hex, runs};
 use crate::scenes::scene;
 use crate::sheet::{FILL, hash};
 use crate::whole::{Given, Told, scan};
@@ -18,21 +19,6 @@ const OF_EACH_NUMBER: u64 = 40;
 
 /// The replaying program lends no more scene words, prefix words, boxes and line words.
 const MOST: [usize; 4] = [4096, 4096, 64, 6000];
-
-fn hex(words: &[u32]) -> String {
-    words.iter().map(|w| format!("{w:08x}")).collect::<Vec<_>>().join(" ")
-}
-
-/// Words with runs: `00000000*0000003e` stands for 62 zeros.
-fn with_runs(words: &[u32]) -> String {
-    let run = |run: &[u32]| match run {
-        [word, _, _, ..] => format!("{word:08x}*{:08x}", run.len()),
-        _ => hex(run),
-    };
-    let entries: Vec<String> = words.chunk_by(|a, b| a == b).map(run).collect();
-    let lines: Vec<String> = entries.chunks(16).map(|line| line.join(" ")).collect();
-    lines.join("\n")
-}
 
 /// The prefix words lent are those of a scan, but for these.
 fn patches(given: &Given, scanned: &[u32]) -> Vec<u32> {
@@ -62,7 +48,7 @@ fn print(given: &Given, told: &Told) {
     println!("{}", hex(&[&bases[..], &lent.map(|n| n as u32), &of_scan, &of_call].concat()));
     for part in [&given.scene, &patches, &box_words(&given.boxes)] {
         if !part.is_empty() {
-            println!("{}", with_runs(part));
+            runs(part).chunks(16).for_each(|line| println!("{}", line.join(" ")));
         }
     }
 }

@@ -6,15 +6,16 @@ use crate::whole::{EMPTY_BOX, Given, scan};
 /// No more attempts than this: what is reached then is small enough.
 const MOST: usize = 200_000;
 
-/// What must become less: how much is lent, how many words are not plain, how many bits are set.
-fn weight(given: &Given) -> (usize, usize, u32) {
+/// What must become less: how much is lent, how many words are not plain, how many bits are set, how large the bases are.
+fn weight(given: &Given) -> (usize, usize, u32, u64) {
     let lists = [&given.scene, &given.prefixes, &given.lines];
     let lent = lists.iter().map(|list| list.len()).sum::<usize>() + 6 * given.boxes.len() + given.n_wg as usize;
     let words = || given.scene.iter().chain(&given.prefixes);
     let not_plain = words().filter(|w| **w != 0).count()
         + given.lines.iter().filter(|w| **w != FILL).count()
         + given.boxes.iter().filter(|b| **b != EMPTY_BOX).count();
-    (lent, not_plain, words().map(|w| w.count_ones()).sum())
+    let bases = [given.tag_base, given.data_base, given.transform_base, given.style_base];
+    (lent, not_plain, words().map(|w| w.count_ones()).sum(), bases.map(u64::from).iter().sum())
 }
 
 struct Shrinking<'a> {
@@ -65,11 +66,22 @@ impl Shrinking<'_> {
     }
 
     fn on_counts(&mut self) {
-        while self.attempt(|given| given.n_wg /= 2) || self.attempt(|given| given.n_wg -= 1) {}
+        while self.attempt(|given| given.n_wg /= 2) || self.attempt(|given| given.n_wg = given.n_wg.saturating_sub(1)) {
+        }
         self.on_runs(|g| g.lines.len(), |g, at, end| drop(g.lines.drain(at..end)));
         self.on_runs(|g| g.boxes.len(), |g, at, end| drop(g.boxes.drain(at..end)));
         self.on_runs(|g| g.prefixes.len(), |g, at, end| drop(g.prefixes.drain(at..end)));
         self.on_runs(|g| g.scene.len(), cut);
+    }
+
+    fn on_bases(&mut self) {
+        let bases: [fn(&mut Given) -> &mut u32; 4] =
+            [|g| &mut g.tag_base, |g| &mut g.data_base, |g| &mut g.transform_base, |g| &mut g.style_base];
+        for base in bases {
+            while self.attempt(|given| *base(given) /= 2)
+                || self.attempt(|given| *base(given) = base(given).saturating_sub(1))
+            {}
+        }
     }
 
     fn on_words(&mut self) {
@@ -102,6 +114,7 @@ pub fn shrink(given: &Given, shows: &dyn Fn(&Given) -> bool) -> Given {
         before = Some(shrinking.best.clone());
         shrinking.on_counts();
         shrinking.on_words();
+        shrinking.on_bases();
     }
     shrinking.best
 }

@@ -4,6 +4,7 @@ use std::cell::RefCell;
 
 use vello_encoding::{BumpAllocators, ConfigUniform, Layout, LineSoup, Monoid, PathBbox, PathMonoid};
 
+use crate::hex::{hex, runs};
 use crate::sheet::{Sheet, UNSTORED, stored};
 use crate::stops;
 
@@ -55,12 +56,11 @@ impl Given {
     }
 
     pub fn show(&self) {
-        let hex = |words: &[u32]| words.iter().map(|w| format!(" {w:08x}")).collect::<String>();
         let bases = [self.tag_base, self.data_base, self.transform_base, self.style_base];
-        println!("  workgroups {:08x}, bases of tags, data, transforms, styles{}", self.n_wg, hex(&bases));
-        println!("  scene{}", hex(&self.scene));
-        println!("  prefixes{}", hex(&self.prefixes));
-        println!("  lines lent{}", hex(&self.lines));
+        println!("  workgroups {:08x}, bases of tags, data, transforms, styles {}", self.n_wg, hex(&bases));
+        for (name, words) in [("scene", &self.scene), ("prefixes", &self.prefixes), ("lines lent", &self.lines)] {
+            println!("  {name}, {} words: {}", words.len(), runs(words).join(" "));
+        }
         println!("  boxes {:?}", self.boxes);
     }
 
