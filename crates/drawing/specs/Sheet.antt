@@ -92,13 +92,6 @@ drawAll path s (e ∷ es) = drawAll path (draw path (s .words) (s .drawn) e) es
 
 -- ---- what an answer says
 
--- the number of the refusal, 0 where there is none
-abbrev pub numberOf : Drawn → ℕ
-numberOf (On pen) = 0
-numberOf (NotNumber n) = 5
-numberOf (NoRoom n) = 6
-numberOf (NoJoin n) = 7
-
 -- how many lines are stored
 abbrev pub countOf : Drawn → ℕ
 countOf (On pen) = pen .count
