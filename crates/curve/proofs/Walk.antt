@@ -10,8 +10,8 @@ use lib.Count.{trailingZeros}
 use lib.IntN.{pos, negsuc}
 use lib.Pow.{pow-add, pow-pos, pow-mono, shl-exact}
 use lib.Ieee.{Float, fin, binary32, mul, add, eq, le, ofInt}
+use Rattle.laws.specs.Binary32.{_⊗_, dec}
 use Rattle.laws.specs.Same.{one}
-use Rattle.spiral.specs.Binary32.{_⊗_, dec}
 use Rattle.spiral.specs.declared.util.Vec2.{Vec2}
 use Rattle.spiral.specs.declared.euler.CubicParams.{CubicParams}
 use Rattle.drawing.specs.Sheet.{Event}

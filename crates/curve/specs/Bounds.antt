@@ -12,10 +12,10 @@ use lib.Pow.{pow-pos}
 use lib.Ieee.{Float, nan, inf, fin, round, isNan, le, up, down, toUnsigned}
 use lib.Ieee.Fits.{down-pos}
 use lib.Ieee.Positive.{positive, num, den, between, own-value, values-of-le}
+use Rattle.laws.specs.Binary32.{whole}
 use Rattle.laws.specs.Same.{either}
 use Rattle.laws.specs.Nan.{nan-is}
 use Rattle.maths.specs.Numbers.{clampOf, clamp-nan, clamp-within}
-use Rattle.spiral.specs.Binary32.{whole}
 use Rattle.spiral.specs.declared.util.Vec2.{Vec2}
 use Rattle.drawing.specs.Sheet.{Event, noCount}
 use Rattle.curve.specs.Fit.{fitOf, placeOf}

@@ -9,7 +9,7 @@ use lib.Dec.{T, eqb, eqb→eq, eqb-refl}
 use lib.Ieee.{Float, nan, inf, fin, binary32, round, isNan, eq, le, lt, up, down, level, toUnsigned}
 use lib.Ieee.Bits.{is-true}
 use lib.Ieee.Fits.{add-fits, and-l, and-r, and-i}
-use Rattle.spiral.specs.Binary32.{whole}
+use Rattle.laws.specs.Binary32.{whole}
 use Rattle.spiral.specs.Util.{eqOf, identityOf, applyOf}
 use Rattle.spiral.specs.Points.{FitsPoint, eq→same-point, identity-same}
 use Rattle.spiral.specs.declared.util.Vec2.{Vec2}

@@ -4,7 +4,7 @@ use mathlib.Core.Bool.{Bool, true, false, _&&_, cond}
 use mathlib.Core.List.{List, [], _∷_, _++_, flatten}
 use lib.ListN.{getD}
 use lib.Ieee.{Float, nan, binary32, round, isNan, eq, le, toUnsigned}
-use Rattle.spiral.specs.Binary32.{_⊕_, _⊖_, _⊗_, dec, whole}
+use Rattle.laws.specs.Binary32.{_⊕_, _⊖_, _⊗_, dec, whole}
 use Rattle.spiral.specs.Util.{newOf, lengthOf, eqOf, identityOf, applyOf}
 use Rattle.spiral.specs.declared.util.Vec2.{Vec2}
 use Rattle.drawing.specs.Sheet.{Event, noCount, lineThrough}

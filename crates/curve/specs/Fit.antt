@@ -5,9 +5,9 @@ use mathlib.Core.List.{List}
 use lib.IntN.{pos}
 use lib.ListN.{getD}
 use lib.Ieee.{Float, nan, binary32, neg, lt, ofInt}
+use Rattle.laws.specs.Binary32.{_⊕_, _⊖_, _⊗_, _⊘_, dec, whole}
 use Rattle.maths.specs.Numbers.{absOf, ceilOf, clampOf}
 use Rattle.maths.specs.Roots.{sqrtOf, cbrtOf}
-use Rattle.spiral.specs.Binary32.{_⊕_, _⊖_, _⊗_, _⊘_, dec, whole}
 use Rattle.spiral.specs.Util.{newOf, subOf, lengthSquaredOf}
 use Rattle.spiral.specs.Euler.{fromPointsDerivs, fromAngles, fromParams, pointOf, espcIntApprox, espcIntInvApprox}
 use Rattle.spiral.specs.declared.util.Vec2.{Vec2}

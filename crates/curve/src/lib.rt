@@ -7,7 +7,7 @@ ghost use mathlib.Core.Bool.{_||_};
 ghost use mathlib.Core.List.{[], _∷_, flatten};
 ghost use Prim.Native.Nat.{_-_};
 ghost use lib.Ieee.{le};
-ghost use Rattle.spiral.specs.Binary32.{_⊗_, dec};
+ghost use Rattle.laws.specs.Binary32.{_⊗_, dec};
 ghost use Rattle.drawing.specs.Sheet.{Drew};
 ghost use Rattle.curve.specs.Curve.{lineOf, linesOf, rangeOf, rangeEnd, part, frontOf, walk, isPoint, sideEvents, deviceSide, localSide, eulerEvents};
 use drawing::line::Drawn;

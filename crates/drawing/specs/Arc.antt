@@ -2,9 +2,9 @@
 use Prim.Native.Nat.{ℕ, zero, suc, _-_, max}
 use mathlib.Core.List.{List, [], _∷_}
 use lib.Ieee.{Float, neg, toUnsigned}
+use Rattle.laws.specs.Binary32.{_⊖_, _⊗_, _⊘_, dec, whole}
 use Rattle.maths.specs.Numbers.{maxOf, ceilOf}
 use Rattle.maths.specs.Trig.{sinOf, cosOf, acosOf}
-use Rattle.spiral.specs.Binary32.{_⊖_, _⊗_, _⊘_, dec, whole}
 use Rattle.spiral.specs.declared.util.Vec2.{Vec2}
 use Rattle.spiral.specs.Util.{addOf, subOf, lengthOf, applyOf}
 use Rattle.drawing.specs.Sheet.{Event, line}

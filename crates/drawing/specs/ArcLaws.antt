@@ -15,11 +15,11 @@ use lib.Ieee.Exact.{HasValue}
 use lib.Ieee.Fits.{up-pos, down-pos, div-fits}
 use lib.Ieee.Order.{round-mono}
 use lib.Ieee.Positive.{num, den, positive, above, above-of-le, le→cross}
+use Rattle.laws.specs.Binary32.{_⊘_, whole}
 use Rattle.laws.specs.Same.{plusZero, round-zero}
 use Rattle.laws.specs.Dyadic.{le-values}
 use Rattle.maths.specs.Numbers.{ceilOf, max-right, ceil-exact}
 use Rattle.maths.specs.Trig.{pi}
-use Rattle.spiral.specs.Binary32.{_⊘_, whole}
 use Rattle.spiral.specs.declared.util.Vec2.{Vec2}
 use Rattle.drawing.specs.Arc.{minTheta, arcRadius, arcStep, arcCount, chords, arcOf}
 

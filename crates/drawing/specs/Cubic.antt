@@ -1,7 +1,7 @@
 -- Points, derivatives and tangents of a cubic. Definitions only.
 use mathlib.Core.Bool.{Bool, cond}
 use lib.Ieee.{Float, lt}
-use Rattle.spiral.specs.Binary32.{_⊖_, _⊗_, whole}
+use Rattle.laws.specs.Binary32.{_⊖_, _⊗_, whole}
 use Rattle.spiral.specs.declared.util.Vec2.{Vec2}
 use Rattle.spiral.specs.Util.{robustEpsilon, addOf, subOf, mulOf, lengthSquaredOf}
 use Rattle.drawing.specs.declared.cubic.CubicAt.{CubicAt}

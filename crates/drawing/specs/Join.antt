@@ -5,10 +5,10 @@ use mathlib.Core.List.{List, [], _∷_, _++_}
 use lib.Dec.{eqb}
 use lib.Bits.{bitAnd}
 use lib.Ieee.{Float, lt}
+use Rattle.laws.specs.Binary32.{_⊕_, _⊖_, _⊗_, _⊘_, whole}
 use Rattle.maths.specs.Numbers.{absOf, halfOf}
 use Rattle.maths.specs.Roots.{hypotOf}
 use Rattle.maths.specs.Trig.{atan2Of}
-use Rattle.spiral.specs.Binary32.{_⊕_, _⊖_, _⊗_, _⊘_, whole}
 use Rattle.spiral.specs.Euler.{tangentThresh}
 use Rattle.spiral.specs.declared.util.Vec2.{Vec2}
 use Rattle.spiral.specs.Util.{addOf, subOf, mulOf, dotOf, eqOf}

@@ -5,12 +5,12 @@ use mathlib.Core.List.{List, [], _∷_, _++_, map, flatten}
 use lib.ListN.{replicate}
 use lib.IntN.{ℤ, pos, negsuc}
 use lib.Ieee.{Float, ofBits, ofInt, toBits, toSigned, toUnsigned, round, neg, add, sub, mul, div, lt, le, eq, isNan}
+use Rattle.laws.specs.Binary32.{dec, whole}
 use Rattle.numbers.specs.Words.{signOf, signed, absOf, halfUnits, halfFields, halfOf}
 use Rattle.numbers.specs.Select.{before, maxOf, clampOf}
 use Rattle.numbers.specs.Whole.{wholeOf, floorOf, ceilOf}
 use Rattle.roots.specs.Root.{sqrtOf, twoThirdsOf, hypotOf}
 use Rattle.trig.specs.Trig as trig
-use Rattle.spiral.specs.Binary32.{dec, whole}
 use Rattle.spiral.specs.Util.{newOf, addOf, subOf, mulOf, dotOf, lengthOf, lengthSquaredOf, mixOf, angleOf, hasNan, eqOf, identityOf, applyOf}
 use Rattle.spiral.specs.Euler.{fittedError, errorRatio, longChord, fromPointsDerivs, fromAngles}
 use Rattle.spiral.specs.declared.util.Vec2.{Vec2}

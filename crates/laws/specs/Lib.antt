@@ -1,3 +1,4 @@
+pub mod Binary32
 pub mod Only
 pub mod Same
 pub mod Own

@@ -6,7 +6,7 @@ use lib.ListN.{length, getD, replicate}
 use lib.Dec.{leb, ltb, eqb}
 use lib.IntN.{pos}
 use lib.Ieee.{Float, binary32, ofBits, ofInt, neg}
-use Rattle.spiral.specs.Binary32.{_⊘_, whole}
+use Rattle.laws.specs.Binary32.{_⊘_, whole}
 use Rattle.spiral.specs.Util.{newOf, mixOf}
 use Rattle.spiral.specs.declared.util.Vec2.{Vec2}
 use Rattle.scene.specs.Words.{wordAt}

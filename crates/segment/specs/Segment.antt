@@ -5,7 +5,7 @@ use mathlib.Core.List.{List, [], _++_}
 use lib.Dec.{eqb}
 use lib.Bits.{bitAnd}
 use lib.Ieee.{Float, neg, lt}
-use Rattle.spiral.specs.Binary32.{_⊗_, dec, whole}
+use Rattle.laws.specs.Binary32.{_⊗_, dec, whole}
 use Rattle.spiral.specs.Util.{newOf, addOf, subOf, mulOf, negOf, normalizeOf, lengthSquaredOf}
 use Rattle.spiral.specs.Euler.{tangentThresh}
 use Rattle.spiral.specs.declared.util.Vec2.{Vec2}

@@ -1,10 +1,10 @@
 -- What the functions of `euler` give, line by line as the source computes it. Definitions only.
 use mathlib.Core.Bool.{cond}
 use lib.Ieee.{Float, neg, lt}
+use Rattle.laws.specs.Binary32.{_⊕_, _⊖_, _⊗_, _⊘_, dec, whole}
 use Rattle.maths.specs.Numbers.{absOf, copysignOf, maxOf}
 use Rattle.maths.specs.Roots.{sqrtOf, cbrtOf, twoThirdsOf, hypotOf}
 use Rattle.maths.specs.Trig.{sinOf, cosOf, asinOf}
-use Rattle.spiral.specs.Binary32.{_⊕_, _⊖_, _⊗_, _⊘_, dec, whole}
 use Rattle.spiral.specs.Util.{newOf, addOf, subOf, lengthOf, lengthSquaredOf, angleOf}
 use Rattle.spiral.specs.declared.util.Vec2.{Vec2}
 use Rattle.spiral.specs.declared.euler.CubicParams.{CubicParams}

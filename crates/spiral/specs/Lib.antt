@@ -1,4 +1,3 @@
-pub mod Binary32
 pub mod Util
 pub mod Euler
 pub mod Points

@@ -3,9 +3,9 @@ use mathlib.Core.Bool.{Bool, _||_, _&&_}
 use mathlib.Core.List.{List, [], _∷_}
 use lib.ListN.{getD}
 use lib.Ieee.{Float, nan, neg, isNan, eq}
+use Rattle.laws.specs.Binary32.{_⊕_, _⊖_, _⊗_, _⊘_, dec, whole}
 use Rattle.maths.specs.Roots.{hypotOf}
 use Rattle.maths.specs.Trig.{atan2Of}
-use Rattle.spiral.specs.Binary32.{_⊕_, _⊖_, _⊗_, _⊘_, dec, whole}
 use Rattle.spiral.specs.declared.util.Vec2.{Vec2}
 
 abbrev pub robustEpsilon : Float

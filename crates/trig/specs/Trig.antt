@@ -3,27 +3,11 @@ use Prim.Native.Nat.{ℕ, _+_, _%_}
 use mathlib.Core.Bool.{_||_, cond}
 use lib.IntN.{pos}
 use lib.Dec.{T, leb, eqb}
-use lib.Ieee.{Float, nan, binary32, ofBits, ofInt, toUnsigned, isNan, add, sub, mul, div, rem, lt, le, eq}
+use lib.Ieee.{Float, nan, binary32, ofBits, ofInt, toUnsigned, isNan, rem, lt, le, eq}
+use Rattle.laws.specs.Binary32.{_⊕_, _⊖_, _⊗_, _⊘_}
 use Rattle.numbers.specs.Words.{signOf, signed, absOf}
 use Rattle.roots.specs.Root.{sqrtOf}
 use Rattle.trig.specs.declared.Turn.{Turn}
-
--- ---- one operation each
-infixl 6 _⊕_
-abbrev pub _⊕_ : Float → Float → Float
-x ⊕ y = add binary32 x y
-
-infixl 6 _⊖_
-abbrev pub _⊖_ : Float → Float → Float
-x ⊖ y = sub binary32 x y
-
-infixl 7 _⊗_
-abbrev pub _⊗_ : Float → Float → Float
-x ⊗ y = mul binary32 x y
-
-infixl 7 _⊘_
-abbrev pub _⊘_ : Float → Float → Float
-x ⊘ y = div binary32 x y
 
 -- ---- numbers, by their bits. π/2, π and 2π are the nearest f32: 1.57079637, 3.14159274, 6.28318548
 abbrev pub f32 : ℕ → Float

@@ -11,7 +11,7 @@ use lib.Seq.{getD-take, getD-drop}
 use lib.Ieee.{Float, binary32, fits, round, eq}
 use lib.Ieee.Bits.{ofBits-fits}
 use lib.Ieee.Fits.{cond-fits, ofInt-fits, neg-fits}
-use Rattle.spiral.specs.Binary32.{whole}
+use Rattle.laws.specs.Binary32.{whole}
 use Rattle.spiral.specs.Points.{FitsPoint}
 use Rattle.spiral.specs.declared.util.Vec2.{Vec2}
 use Rattle.drawing.specs.Sheet.{Event}
