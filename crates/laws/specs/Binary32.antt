@@ -1,7 +1,7 @@
--- The operations of binary32, each rounded once, and the numbers nearest to decimals. Definitions only.
+-- The operations of binary32, each rounded once, and how its numbers are written: by their decimals, or by their bits. Definitions only.
 use Prim.Native.Nat.{ℕ, _^_}
 use mathlib.Core.Bool.{false}
-use lib.Ieee.{Float, binary32, round, add, sub, mul, div}
+use lib.Ieee.{Float, binary32, round, ofBits, add, sub, mul, div}
 
 infixl 6 _⊕_
 abbrev pub _⊕_ : Float → Float → Float
@@ -25,3 +25,6 @@ dec n k = round binary32 false n (10 ^ k)
 
 abbrev pub whole : ℕ → Float
 whole n = dec n 0
+
+abbrev pub f32 : ℕ → Float
+f32 n = ofBits binary32 n

@@ -4,13 +4,11 @@ use mathlib.Core.Bool.{true, false}
 use mathlib.Core.List.{List, [], _∷_, map}
 use Prim.Native.Nat.{ℕ}
 use lib.IntN.{pos, negsuc}
-use lib.Ieee.{Float, nan, inf, fin, binary32, ofBits, toBits, toSigned, toUnsigned, lt, eq, isNan, round}
+use lib.Ieee.{nan, inf, fin, binary32, ofBits, toBits, toSigned, toUnsigned, lt, eq, isNan, round}
+use Rattle.laws.specs.Binary32.{f32}
 use Rattle.numbers.specs.Words.{signOf, halfOf, halfFields, halfUnits}
 use Rattle.numbers.specs.Select.{before, minOf, maxOf, clampOf}
 use Rattle.numbers.specs.Whole.{wholeOf, floorOf, ceilOf}
-
-abbrev f32 : ℕ → Float
-f32 b = ofBits binary32 b
 
 -- ---- binary16
 pub half-four : halfOf 0x4400 ≡ f32 0x40800000

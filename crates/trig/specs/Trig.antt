@@ -3,16 +3,13 @@ use Prim.Native.Nat.{ℕ, _+_, _%_}
 use mathlib.Core.Bool.{_||_, cond}
 use lib.IntN.{pos}
 use lib.Dec.{T, leb, eqb}
-use lib.Ieee.{Float, nan, binary32, ofBits, ofInt, toUnsigned, isNan, rem, lt, le, eq}
-use Rattle.laws.specs.Binary32.{_⊕_, _⊖_, _⊗_, _⊘_}
+use lib.Ieee.{Float, nan, binary32, ofInt, toUnsigned, isNan, rem, lt, le, eq}
+use Rattle.laws.specs.Binary32.{_⊕_, _⊖_, _⊗_, _⊘_, f32}
 use Rattle.numbers.specs.Words.{signOf, signed, absOf}
 use Rattle.roots.specs.Root.{sqrtOf}
 use Rattle.trig.specs.declared.Turn.{Turn}
 
 -- ---- numbers, by their bits. π/2, π and 2π are the nearest f32: 1.57079637, 3.14159274, 6.28318548
-abbrev pub f32 : ℕ → Float
-f32 n = ofBits binary32 n
-
 abbrev pub zero : Float
 zero = f32 0
 

@@ -4,8 +4,8 @@ use mathlib.Core.Bool.{Bool, true, false, cond}
 use Prim.Native.Nat.{_%_}
 use lib.Dec.{eqb}
 use lib.Ieee.{Float, ofBits, neg}
-use Rattle.laws.specs.Binary32.{_⊕_, _⊗_}
-use Rattle.trig.specs.Trig.{f32, one, sinNear, cosNear, curveOf}
+use Rattle.laws.specs.Binary32.{_⊕_, _⊗_, f32}
+use Rattle.trig.specs.Trig.{one, sinNear, cosNear, curveOf}
 use borrow.Author.Needs.{needs}
 use Rattle.trig.proofs.curve.Statement.{statement}
 use Rattle.trig.proofs.curve.Tie as tie
