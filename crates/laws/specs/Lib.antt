@@ -4,4 +4,5 @@ pub mod Same
 pub mod Own
 pub mod Dyadic
 pub mod Nan
+pub mod Neg
 pub mod Compare

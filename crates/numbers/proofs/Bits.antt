@@ -12,7 +12,7 @@ use borrow.Author.Tests.{lt-ltb, le-ltb}
 use Rattle.laws.specs.Dyadic.{add-value}
 use Rattle.laws.specs.Own.{zero-exp, round-own}
 use Rattle.numbers.specs.Words.{signOf, signed, absOf}
-use Rattle.laws.specs.Nan.{nan-is}
+use Rattle.laws.specs.Nan.{nan-is, no-nan}
 use Rattle.numbers.specs.WordsLaws.{nan-test}
 
 -- ---- a test's outcome as a fact
@@ -41,10 +41,6 @@ pub nan-sign : signOf nan ≡ false
 unfolding signOf
 nan-sign = refl
 
-nan-clear : T (not (isNan nan)) → ⊥
-unfolding isNan
-nan-clear h = h
-
 odd-sign : (d : ℕ) (s : Bool) (q k l : ℕ) → signOf (odd d s q k l) ≡ s
 unfolding signOf odd
 odd-sign d s zero k l = refl
@@ -57,7 +53,7 @@ fields-sign s (suc x) t h = top (eqb (suc x) 255) (eqb t 0) h
   where
     top : (a b : Bool) → T (not (isNan (cond a (cond b (inf s) nan) (odd 24 s (8388608 + t) x 149)))) → signOf (cond a (cond b (inf s) nan) (odd 24 s (8388608 + t) x 149)) ≡ s
     top true true h = unfold signOf in refl
-    top true false h = absurd (nan-clear h)
+    top true false h = absurd (no-nan h)
     top false b h = odd-sign 24 s (8388608 + t) x 149
 
 bits-sign : (n : ℕ) → T (not (isNan (ofBits binary32 n))) → signOf (ofBits binary32 n) ≡ leb 0x8000_0000 n

@@ -7,7 +7,7 @@ use lib.Ieee.Bits.{is-false}
 use lib.Ieee.{Float, nan, inf, fin, binary32, isNan, lt, le, eq, fits}
 use Rattle.numbers.specs.Words.{signOf}
 use Rattle.laws.specs.Same.{either}
-use Rattle.laws.specs.Nan.{nan-is}
+use Rattle.laws.specs.Nan.{nan-is, no-nan}
 use Rattle.numbers.specs.Select.{before, minOf, maxOf, clampOf}
 use Rattle.numbers.specs.Order.{Ordered, less, more, alike, ordered, le-self, not-lt→le, one-float, le-number-left, le-number-right}
 
@@ -124,10 +124,6 @@ bounds false x y h k p q = ((le-self x h, q tt), (q tt, le-self y k))
 
 numbers : (x y : Float) → T (not (isNan x)) → T (not (isNan y)) → (T (le x (maxOf x y)) × T (le y (maxOf x y))) × (T (le (minOf x y) x) × T (le (minOf x y) y))
 numbers x y h k = rw (max-numbers x y h k, min-numbers x y h k) (bounds (before x y) x y h k (before→le x y) (not-before→le x y h k))
-
-no-nan : T (not (isNan nan)) → ⊥
-unfolding isNan
-no-nan h = h
 
 pub max-left : (x y : Float) → T (not (isNan x)) → T (le x (maxOf x y))
 max-left = by-nan (λ (x y : Float). T (not (isNan x)) → T (le x (maxOf x y))) (λ y h. absurd (no-nan h)) (λ x h. rw max-nan-right (le-self x h)) (λ x y h k g. numbers x y h k .0 .0)

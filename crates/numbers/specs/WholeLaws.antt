@@ -16,6 +16,7 @@ use lib.Ieee.Exact.{HasValue}
 use lib.Ieee.Back.{round-whole}
 use Rattle.laws.specs.Same.{either}
 use Rattle.laws.specs.Own.{fits-says, round-own}
+use Rattle.laws.specs.Neg.{neg-neg}
 use Rattle.numbers.specs.Words.{signOf}
 use Rattle.numbers.specs.Whole.{quot, wholeOf, floorOf, ceilOf, wholeSigned, floorSigned, ceilSigned, ceilUnsigned}
 
@@ -142,14 +143,6 @@ neg-round f a c =
     let k = size (n / c) - prec f in
     let v = c * 2 ^ k in
     neg-units f (nearest (n / v) (compare (n % v * 2) v)) k
-
-neg-neg : (x : Float) → neg (neg x) ≡ x
-unfolding neg
-neg-neg nan = refl
-neg-neg (inf true) = refl
-neg-neg (inf false) = refl
-neg-neg (fin true m e) = refl
-neg-neg (fin false m e) = refl
 
 pub whole-neg : (u : Bool) (x : Float) → wholeOf u (neg x) ≡ neg (wholeOf u x)
 unfolding wholeOf neg

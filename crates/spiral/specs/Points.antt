@@ -9,7 +9,7 @@ use lib.ListN.{getD}
 use lib.Ieee.{Float, nan, inf, fin, binary32, fits, isNan, eq, round}
 use lib.Ieee.Fits.{and-l, and-r, and-i}
 use lib.Ieee.Scale.{finite}
-use Rattle.laws.specs.Same.{Same, isZero, plusZero, one, rowOf, same-row, same-row-exact, same→eq}
+use Rattle.laws.specs.Same.{Same, isZero, plusZero, one, rowOf, same-row, same-row-exact, or-true, same→eq}
 use Rattle.laws.specs.Own.{eq→same, identity-x, identity-x-zero, identity-y, identity-y-zero, identity-nan-x, identity-nan-y}
 use Rattle.spiral.specs.Util.{newOf, hasNan, eqOf, identityOf, applyOf}
 use Rattle.spiral.specs.declared.util.Vec2.{Vec2}
@@ -88,12 +88,8 @@ identity-finite p f h =
     ∙ both (zero-or-own x (rowOf binary32 one plusZero plusZero x y) (identity-x-zero binary32 x y (f .0) (h .1)) (identity-x binary32 x y (f .0) (h .1)))
     (zero-or-own y (rowOf binary32 plusZero one plusZero x y) (identity-y-zero binary32 x y (f .1) (h .0)) (identity-y binary32 x y (f .1) (h .0)))
 
-or-yes : (b : Bool) → T (b || true)
-or-yes true = tt
-or-yes false = tt
-
 -- an infinity or a NaN leaves a NaN
 pub identity-not-finite : (p : Vec2) → T (not (finite (p .x))) ⊎ T (not (finite (p .y))) → T (hasNan (applyOf identityOf p))
 unfolding hasNan isNan
-identity-not-finite p (inl h) = rw (identity-rows p, identity-nan-y binary32 (p .x) (p .y) h) (or-yes (isNan (rowOf binary32 one plusZero plusZero (p .x) (p .y))))
+identity-not-finite p (inl h) = rw (identity-rows p, identity-nan-y binary32 (p .x) (p .y) h) (or-true (isNan (rowOf binary32 one plusZero plusZero (p .x) (p .y))))
 identity-not-finite p (inr h) = rw (identity-rows p, identity-nan-x binary32 (p .x) (p .y) h) tt

@@ -8,21 +8,12 @@ use lib.IntN.{ℤ, pos}
 use lib.Dec.{T, ltb, eqb, lt→ltb}
 use lib.Ieee.{Float, nan, inf, fin, binary32, up, down, below, fits, isNan, neg, lt, le, eq}
 use lib.Ieee.Fits.{up-pos, down-pos, cond-fits, neg-fits}
+use Rattle.laws.specs.Neg.{neg-neg}
 use Rattle.numbers.specs.Words.{signOf, signed, absOf}
 use Rattle.numbers.specs.Order.{Ordered, less, more, alike, ordered, le-number-left, le-number-right}
 use Rattle.trig.specs.Trig.{Within, boundedOf}
 
 -- ---- the sign
-not-not : (s : Bool) → not (not s) ≡ s
-not-not true = refl
-not-not false = refl
-
-pub neg-neg : (x : Float) → neg (neg x) ≡ x
-unfolding neg
-neg-neg nan = refl
-neg-neg (inf s) = ap inf (not-not s)
-neg-neg (fin s m e) = ap (λ (b : Bool). fin b m e) (not-not s)
-
 pub sign-neg : (x : Float) → T (not (isNan x)) → signOf (neg x) ≡ not (signOf x)
 unfolding neg signOf isNan
 sign-neg nan h = absurd h
@@ -56,6 +47,10 @@ lt→le x y h = go (lt x y) h
     go : (b : Bool) → T b → T (b || eq x y)
     go true t = tt
     go false t = absurd t
+
+not-not : (s : Bool) → not (not s) ≡ s
+not-not true = refl
+not-not false = refl
 
 below-not : (s : Bool) (a : ℕ) (t : Bool) (b : ℕ) → below (not s) a (not t) b ≡ below t b s a
 below-not true a true b = refl
