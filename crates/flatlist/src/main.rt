@@ -3,8 +3,9 @@
 mod input;
 mod output;
 
+use flatten::boxes::PathBox;
 use flatten::call::Layout;
-use flatten::call::flatten_sixteen;
+use flatten::call::flatten_owned;
 use flatten::call::report;
 
 fn layout_of(head: &[u32; 6]) -> Layout {
@@ -31,14 +32,22 @@ fn write_answer(number: u32, told: &[u64; 2]) {
 // The six words before the scene, and the scene.
 fn flatten_sheet(head: &[u32; 6], scene: &[u32]) {
     let n = head[5];
-    if n > 16 {
+    if n > 64 {
         output::bad_input();
         return;
     }
     let mut prefixes = [0u32; 4096];
     let mut lines = [0u32; 6000];
     scene::tags::scan(scene, head[1], &mut prefixes);
-    let done = flatten_sixteen(layout_of(head), scene, &prefixes, &mut lines, n as usize);
+    let fresh = [PathBox::fresh(); 64];
+    let done = flatten_owned(
+        layout_of(head),
+        scene,
+        &prefixes,
+        fresh,
+        n as usize,
+        &mut lines,
+    );
     let answer = done.answer;
     let boxes = done.boxes;
     let mut told = [0u64; 2];

@@ -66,9 +66,9 @@ fn write_box(b: PathBox) {
 }
 
 // The first n boxes.
-pub fn write_boxes(boxes: [PathBox; 16], n: usize) {
+pub fn write_boxes(boxes: [PathBox; 64], n: usize) {
     let mut k = 0usize;
-    while k < 16 {
+    while k < 64 {
         if k >= n {
             return;
         }

@@ -1,11 +1,11 @@
 -- The whole call: one tag after the other, until none is left or one is refused. Definitions only.
-use Prim.Native.Nat.{ℕ, zero, suc, _*_, _-_}
+use Prim.Native.Nat.{ℕ, zero, suc, _*_}
 use mathlib.Core.Bool.{Bool, true, false, _||_, cond}
 use mathlib.Core.List.{List, [], _∷_, _++_}
 use lib.Dec.{ltb}
-use lib.ListN.{length, replicate}
+use lib.ListN.{length, take, drop}
 use Rattle.drawing.specs.Sheet.{emptyBox}
-use Rattle.flatten.specs.Boxes.{freshBox, changedAt}
+use Rattle.flatten.specs.Boxes.{changedAt}
 use Rattle.flatten.specs.Step.{Stepped, stepOf}
 use Rattle.flatten.specs.declared.boxes.PathBox.{PathBox}
 use Rattle.flatten.specs.declared.call.Layout.{Layout}
@@ -108,11 +108,11 @@ callOf layout scene prefixes ps ws =
 -- ---- the call with boxes of its own
 
 unfoldable pub fewOf : ℕ → ℕ
-fewOf n = cond (ltb 16 n) 16 n
+fewOf n = cond (ltb 64 n) 64 n
 
-abbrev pub filled : ℕ → Outcome → Outcome
-filled k o = outcome (o .answer) (o .boxes ++ replicate k freshBox) (o .lines)
+abbrev pub andBehind : List PathBox → Outcome → Outcome
+andBehind ps o = outcome (o .answer) (o .boxes ++ ps) (o .lines)
 
--- at most 16 boxes, each a fresh one, are lent; behind them stand the others of the 16
-unfoldable pub sixteenOf : Layout → List ℕ → List ℕ → List ℕ → ℕ → Outcome
-sixteenOf layout scene prefixes ws n = filled (16 - fewOf n) (callOf layout scene prefixes (replicate (fewOf n) freshBox) ws)
+-- the first n boxes are lent, of 64 at most; behind them stand the others
+unfoldable pub ownedOf : Layout → List ℕ → List ℕ → List PathBox → ℕ → List ℕ → Outcome
+ownedOf layout scene prefixes ps n ws = andBehind (drop (fewOf n) ps) (callOf layout scene prefixes (take (fewOf n) ps) ws)

@@ -4,13 +4,13 @@ use mathlib.Core.Path.{_≡_, _∙_, sym}
 use mathlib.Core.List.{List}
 use Rattle.laws.specs.Only.{Only, determined}
 use Rattle.flatten.specs.Boxes.{freshBox, changedOf, changedAt}
-use Rattle.flatten.specs.Call.{startOf, answerOf, toldOf, reportOf, outcome, callOf, sixteenOf}
+use Rattle.flatten.specs.Call.{startOf, answerOf, toldOf, reportOf, outcome, callOf, ownedOf}
 use Rattle.flatten.specs.declared.boxes.PathBox.{PathBox}
 use Rattle.flatten.specs.declared.boxes.Change.{Change}
 use Rattle.flatten.specs.declared.call.Layout.{Layout}
 use Rattle.flatten.specs.declared.call.Turn.{Turn}
 use Rattle.flatten.specs.declared.call.Answer.{Answer}
-use Rattle.flatten.specs.declared.call.Sixteen.{Sixteen}
+use Rattle.flatten.specs.declared.call.Owned.{Owned}
 
 pub fresh-only : Only (λ r. r ≡ freshBox)
 fresh-only = determined freshBox
@@ -38,6 +38,6 @@ pub flatten-main-only : (layout : Layout) (scene prefixes : List ℕ) (ps : List
     → Only (λ (r : Answer × (List PathBox × List ℕ)). outcome (r .0) (r .1 .0) (r .1 .1) ≡ callOf layout scene prefixes ps ws)
 flatten-main-only layout scene prefixes ps ws r s p q = let e = p ∙ sym q in λ i. (e i .answer, (e i .boxes, e i .lines))
 
-pub flatten-sixteen-only : (layout : Layout) (scene prefixes ws : List ℕ) (n : ℕ)
-    → Only (λ (r : Sixteen × List ℕ). outcome (r .0 .answer) (r .0 .boxes) (r .1) ≡ sixteenOf layout scene prefixes ws n)
-flatten-sixteen-only layout scene prefixes ws n r s p q = let e = p ∙ sym q in λ i. (record { answer = e i .answer; boxes = e i .boxes }, e i .lines)
+pub flatten-owned-only : (layout : Layout) (scene prefixes : List ℕ) (ps : List PathBox) (n : ℕ) (ws : List ℕ)
+    → Only (λ (r : Owned × List ℕ). outcome (r .0 .answer) (r .0 .boxes) (r .1) ≡ ownedOf layout scene prefixes ps n ws)
+flatten-owned-only layout scene prefixes ps n ws r s p q = let e = p ∙ sym q in λ i. (record { answer = e i .answer; boxes = e i .boxes }, e i .lines)

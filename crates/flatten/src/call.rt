@@ -1,7 +1,7 @@
 // The whole call: the turns over the tags, and the answer.
 ghost use mathlib.Core.Path.{_≡_};
 ghost use Prim.Native.Nat.{_<_};
-ghost use Rattle.flatten.specs.Call.{firstTurn, startOf, answerOf, toldOf, reportOf, said, outcome, callOf, fewOf, sixteenOf};
+ghost use Rattle.flatten.specs.Call.{firstTurn, startOf, answerOf, toldOf, reportOf, said, outcome, callOf, fewOf, ownedOf};
 use crate::boxes::Change;
 use crate::boxes::PathBox;
 use crate::boxes::merge_at;
@@ -163,33 +163,33 @@ pub fn flatten_main(
 }
 
 // What a call with boxes of its own answers.
-pub struct Sixteen {
+pub struct Owned {
     pub answer: Answer,
-    pub boxes: [PathBox; 16],
+    pub boxes: [PathBox; 64],
 }
 
 fn few(n: usize) -> usize
     ensures { λ r. ⌜ r ≡ fewOf n ⌝ }
 {
-    if 16 < n {
-        return 16;
+    if 64 < n {
+        return 64;
     }
     n
 }
 
-// For callers that have no list of records to lend.
-pub fn flatten_sixteen(
+// For callers that have no list of records to lend: the first n boxes are lent, and all come back.
+pub fn flatten_owned(
     layout: Layout,
     scene: &[u32],
     prefixes: &[u32],
-    lines: &mut [u32],
+    mut boxes: [PathBox; 64],
     n: usize,
-) -> Sixteen
+    lines: &mut [u32],
+) -> Owned
     ensures { λ r. ⌜ outcome (r .answer) (r .boxes) (now (lines .exit))
-        ≡ sixteenOf layout (now (scene .entry)) (now (prefixes .entry)) (now (lines .entry)) n ⌝ }
+        ≡ ownedOf layout (now (scene .entry)) (now (prefixes .entry)) boxes n (now (lines .entry)) ⌝ }
 {
     let n_boxes = few(n);
-    let mut boxes = [PathBox::fresh(); 16];
     let answer = flatten_main(layout, scene, prefixes, &mut boxes[..n_boxes], lines);
-    Sixteen { answer, boxes }
+    Owned { answer, boxes }
 }

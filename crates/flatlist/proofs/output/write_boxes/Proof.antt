@@ -5,10 +5,10 @@ use Rattle.flatlist.proofs.output.write_boxes.Statement.{statement}
 use Rattle.flatlist.proofs.output.write_boxes.Tie as tie
 
 abbrev Inv-loop : tie.InvT-loop
-Inv-loop n boxes k₀ k = k ≤ 16
+Inv-loop n boxes k₀ k = k ≤ 64
 
 abbrev μ-loop : tie.MeasureT-loop
-μ-loop n boxes k₀ k = 16 - k
+μ-loop n boxes k₀ k = 64 - k
 
 loop-holds : tie.Need-loop-holds Inv-loop μ-loop
 loop-holds c = search needs
