@@ -2,7 +2,6 @@
 use crate::vector::number;
 use crate::vector::point;
 use crate::vector::transform;
-use crate::vector::word;
 use curve::flatten_euler;
 use drawing::arc::flatten_arc;
 use drawing::cap::draw_cap;
@@ -10,6 +9,7 @@ use drawing::join::draw_join;
 use drawing::line::Drawn;
 use drawing::line::IntBbox;
 use drawing::line::Pen;
+use lists::word;
 
 fn arc(lines: &mut [u32], ink: Drawn, line: &[u8; 351]) -> Drawn {
     let begin = point(line, 0);

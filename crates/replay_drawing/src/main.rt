@@ -1,14 +1,12 @@
 // Replays the list on standard input, which docs/ORACLE.md describes: a line is a call, the words
 // lent to it, its arguments, and what it answers and stores, as words of eight hex digits. Writes
 // each line whose answer is another here, and last how many lines there were and how many differ.
-ghost use Prim.Native.Nat.{_<_};
-
 mod calls;
 mod vector;
 
 use drawing::line::Drawn;
 use drawing::line::IntBbox;
-use vector::word;
+use lists::word;
 
 // The bytes of a line, its end with them.
 const LINE: usize = 351;
@@ -16,35 +14,7 @@ const LINE: usize = 351;
 // More lines than any list has.
 const MOST: u64 = 1000000;
 
-// What every lent word is at first.
-const FILL: u32 = 0xa5a5a5a5;
-
-fn fill(lines: &mut [u32]) {
-    let mut i: usize = 0;
-    while i < lines.len() {
-        lines[i] = FILL;
-        i += 1;
-    }
-}
-
-// FNV-1a, 32 bits, taken a word at a time.
-fn hash(lines: &[u32]) -> u32 {
-    let mut h: u32 = 0x811c9dc5;
-    let mut i: usize = 0;
-    while i < lines.len() {
-        h = mixed(h ^ lines[i]);
-        i += 1;
-    }
-    h
-}
-
-fn mixed(h: u32) -> u32 {
-    ((h as u64) * 16777619 % 4294967296) as u32
-}
-
-fn whole(line: &[u8; 351], k: usize) -> i32
-    requires { ⌜ k < 39 ⌝ }
-{
+fn whole(line: &[u8; 351], k: usize) -> i32 {
     maths::to_i32(maths::float_of(word(line, k)))
 }
 
@@ -70,9 +40,9 @@ fn is_told(line: &[u8; 351], r: Drawn) -> bool {
 
 // The lent words, stored and not, have the hash told.
 fn is_drawn(lines: &mut [u32], line: &[u8; 351]) -> bool {
-    fill(lines);
+    lists::fill(lines, lists::LENT);
     let r = calls::draw(lines, line);
-    is_told(line, r) & (hash(lines) == word(line, 30))
+    is_told(line, r) & (lists::hash(lines) == word(line, 30))
 }
 
 fn is_right(lines: &mut [u32], line: &[u8; 351]) -> bool {
@@ -81,13 +51,6 @@ fn is_right(lines: &mut [u32], line: &[u8; 351]) -> bool {
         return is_drawn(&mut lines[..lent], line);
     }
     false
-}
-
-fn report(count: u64, differ: u64) {
-    io::print_decimal(1, count);
-    io::write_all(1, b" vectors, ");
-    io::print_decimal(1, differ);
-    io::write_all(1, b" differ\n");
 }
 
 // One line of input: 0 if its answer is the one here, 1 if not, which it writes, and 2 at the end.
@@ -116,5 +79,5 @@ fn main() {
         differ += r;
         count += 1;
     }
-    report(count, differ);
+    lists::report_vectors(count, differ);
 }

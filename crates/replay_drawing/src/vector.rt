@@ -1,32 +1,9 @@
-// A line of the list: words of eight hex digits, each with one byte behind it.
+// The numbers and points of a line of the list.
 ghost use Prim.Native.Nat.{_<_};
+use lists::word;
 use spiral::util::Vec2;
 
-fn wide(b: u8) -> u32 {
-    b as u32
-}
-
-fn digit(b: u8) -> u32 {
-    let low = wide(b) % 16;
-    if b < b'a' { low } else { low + 9 }
-}
-
-// The word k of a line.
-pub fn word(line: &[u8; 351], k: usize) -> u32
-    requires { ⌜ k < 39 ⌝ }
-{
-    let mut w: u32 = 0;
-    let mut i: usize = 0;
-    while i < 8 {
-        w = (w << 4) | digit(line[k * 9 + i]);
-        i += 1;
-    }
-    w
-}
-
-fn float(line: &[u8; 351], k: usize) -> f32
-    requires { ⌜ k < 39 ⌝ }
-{
+fn float(line: &[u8; 351], k: usize) -> f32 {
     maths::float_of(word(line, k))
 }
 

@@ -1,11 +1,10 @@
 // Replays the list on standard input, which docs/ORACLE.md describes: a line is a call's number, the
 // ten numbers given and the four of the answer, as words of eight hex digits. Writes each line whose
 // answer is another here, and last how many lines there were and how many differ.
-ghost use Prim.Native.Nat.{_<_};
-
 mod calls;
 
 use calls::Answer;
+use lists::word;
 
 // The bytes of a line, its end with them.
 const LINE: usize = 135;
@@ -13,32 +12,8 @@ const LINE: usize = 135;
 // More lines than any list has.
 const MOST: u64 = 1000000;
 
-fn wide(b: u8) -> u32 {
-    b as u32
-}
-
-fn digit(b: u8) -> u32 {
-    let low = wide(b) % 16;
-    if b < b'a' { low } else { low + 9 }
-}
-
-// The word k of a line.
-fn word(line: &[u8; 135], k: usize) -> u32
-    requires { ⌜ k < 15 ⌝ }
-{
-    let mut w: u32 = 0;
-    let mut i: usize = 0;
-    while i < 8 {
-        w = (w << 4) | digit(line[k * 9 + i]);
-        i += 1;
-    }
-    w
-}
-
-fn given(line: &[u8; 135], k: usize) -> f32
-    requires { ⌜ k < 10 ⌝ }
-{
-    maths::float_of(word(line, k + 1))
+fn given(line: &[u8; 135], k: usize) -> f32 {
+    maths::float_of(word(line, k))
 }
 
 // Whether the number has the bits of the word, or both are no numbers.
@@ -58,7 +33,6 @@ fn is_told(line: &[u8; 135], r: Answer) -> bool {
 
 fn is_right(line: &[u8; 135]) -> bool {
     let v = [
-        given(line, 0),
         given(line, 1),
         given(line, 2),
         given(line, 3),
@@ -68,15 +42,9 @@ fn is_right(line: &[u8; 135]) -> bool {
         given(line, 7),
         given(line, 8),
         given(line, 9),
+        given(line, 10),
     ];
     is_told(line, calls::run(word(line, 0), v))
-}
-
-fn report(count: u64, differ: u64) {
-    io::print_decimal(1, count);
-    io::write_all(1, b" vectors, ");
-    io::print_decimal(1, differ);
-    io::write_all(1, b" differ\n");
 }
 
 // One line of input: 0 if its answer is the one here, 1 if not, which it writes, and 2 at the end.
@@ -103,5 +71,5 @@ fn main() {
         differ += r;
         count += 1;
     }
-    report(count, differ);
+    lists::report_vectors(count, differ);
 }

@@ -12,7 +12,7 @@ slice-relend-prefix-is-drawn : tie.Need-slice-relend-prefix-is-drawn
 slice-relend-prefix-is-drawn c = search needs
 
 slice-aggregate-is-drawn : tie.Need-slice-aggregate-is-drawn
-slice-aggregate-is-drawn c = sym (length-take-le (c .before .before .word .result) (c .before .before .before .before .args .lines .now) (search needs))
+slice-aggregate-is-drawn c = sym (length-take-le _ _ (slice-relend-prefix-is-drawn (c .before)))
 
 same-length : tie.Need-same-length
 same-length c = search needs

@@ -1,8 +1,8 @@
--- `replay_spiral::word` is safe and ends. Its place in the line is within the line's 135 bytes. Assumes nothing.
+-- `lists::word` is safe and ends: the line is long enough for the word's eight digits. Assumes nothing.
 use Prim.Native.Nat.{_-_}
 use native.Mathlib.Omega.{arith}
-use Rattle.replay_spiral.proofs.word.Statement.{statement}
-use Rattle.replay_spiral.proofs.word.Tie as tie
+use Rattle.lists.proofs.word.Statement.{statement}
+use Rattle.lists.proofs.word.Tie as tie
 
 abbrev Inv-loop : tie.InvT-loop
 Inv-loop line k w₀ i₀ w i = Unit {0}
@@ -16,8 +16,8 @@ mul-digit c = omega arith
 add-digit : tie.Need-add-digit Inv-loop μ-loop
 add-digit c = omega arith
 
-element-copy-out-digit : tie.Need-element-copy-out-digit Inv-loop μ-loop
-element-copy-out-digit c = omega arith
+shared-slice-read-digit : tie.Need-shared-slice-read-digit Inv-loop μ-loop
+shared-slice-read-digit c = omega arith
 
 add-i : tie.Need-add-i Inv-loop μ-loop
 add-i c = omega arith
@@ -26,4 +26,4 @@ loop-less : tie.Need-loop-less Inv-loop μ-loop
 loop-less c = omega arith
 
 pub word-spec : {M : Type 1} → statement M
-word-spec = tie.close (tie.spec Inv-loop μ-loop (λ c. tt) mul-digit add-digit element-copy-out-digit (λ c κs. tt) add-i loop-less (λ c. tt) (λ c. tt))
+word-spec = tie.close (tie.spec Inv-loop μ-loop (λ c. tt) (λ c. tt) mul-digit add-digit shared-slice-read-digit (λ c κs. tt) add-i loop-less (λ c. tt) (λ c. tt))

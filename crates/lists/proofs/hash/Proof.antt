@@ -1,15 +1,15 @@
--- `replay_drawing::hash` is safe and ends. Assumes nothing.
+-- `lists::hash` is safe and ends. Assumes nothing.
 use Prim.Native.Nat.{_-_}
 use native.Mathlib.Omega.{arith}
 use lib.ListN.{length}
-use Rattle.replay_drawing.proofs.hash.Statement.{statement}
-use Rattle.replay_drawing.proofs.hash.Tie as tie
+use Rattle.lists.proofs.hash.Statement.{statement}
+use Rattle.lists.proofs.hash.Tie as tie
 
 abbrev Inv-loop : tie.InvT-loop
-Inv-loop lines h₀ i₀ h i = Unit {0}
+Inv-loop words h₀ i₀ h i = Unit {0}
 
 abbrev μ-loop : tie.MeasureT-loop
-μ-loop lines h₀ i₀ h i = length lines - i
+μ-loop words h₀ i₀ h i = length words - i
 
 mul-mixed : tie.Need-mul-mixed Inv-loop μ-loop
 mul-mixed c = omega arith
