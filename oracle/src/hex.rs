@@ -7,9 +7,9 @@ pub fn hex(words: &[u32]) -> String {
 
 /// The same with runs, an entry for each: `00000000*0000003e` stands for 62 zeros.
 pub fn runs(words: &[u32]) -> Vec<String> {
-    let run = |run: &[u32]| match run {
-        [word, _, _, ..] => format!("{word:08x}*{:08x}", run.len()),
-        _ => hex(run),
+    let entries = |run: &[u32]| match run {
+        [word, _, _, ..] => vec![format!("{word:08x}*{:08x}", run.len())],
+        _ => run.iter().map(|word| hex(&[*word])).collect(),
     };
-    words.chunk_by(|a, b| a == b).map(run).collect()
+    words.chunk_by(|a, b| a == b).flat_map(entries).collect()
 }

@@ -13,12 +13,13 @@ use crate::whole::{Given, Told, scan};
 const SEED: u64 = 8;
 const SCENES: u64 = 20_000;
 
-/// Every name is in so many scenes of the list, and every number told, or in all there are.
+/// Every name is in so many scenes of the list, and so many are accepted, and refused with each number.
 const OF_EACH_NAME: u64 = 5;
-const OF_EACH_NUMBER: u64 = 40;
+const ACCEPTED: u64 = 160;
+const OF_EACH_NUMBER: u64 = 30;
 
 /// The replaying program lends no more scene words, prefix words, boxes and line words.
-const MOST: [usize; 4] = [4096, 4096, 64, 6000];
+const MOST: [usize; 4] = [4096, 4096, 64, 9216];
 
 /// The prefix words lent are those of a scan, but for these.
 fn patches(given: &Given, scanned: &[u32]) -> Vec<u32> {
@@ -73,7 +74,8 @@ pub fn list() {
         let told = scene.given.told(0);
         let is_new = is_wanted(&mut names, &scene.names, OF_EACH_NAME);
         let number = [NUMBERS[told.number as usize]];
-        if fits(&scene.given) && (is_wanted(&mut numbers, &number, OF_EACH_NUMBER) || is_new) {
+        let least = if told.number == 0 { ACCEPTED } else { OF_EACH_NUMBER };
+        if fits(&scene.given) && (is_wanted(&mut numbers, &number, least) || is_new) {
             print(&scene.given, &told);
         }
     }

@@ -32,7 +32,7 @@ fn write_answer(number: u32, told: &[u64; 2]) {
 // The six words before the scene, and the scene.
 fn flatten_sheet(head: &[u32; 6], scene: &[u32]) {
     let n = head[5];
-    if n > 64 {
+    if n > 16 {
         output::bad_input();
         return;
     }
