@@ -4,6 +4,7 @@
 use std::f32::consts::PI;
 
 use published::calls::{ARC, CAP, EULER, JOIN, Pen, draw};
+use published::ours::Ours;
 use vello_encoding::LineSoup;
 
 use crate::shapes::{Point, SHAPES};
@@ -143,7 +144,8 @@ fn times(p: Point, k: f32) -> Point {
 
 /// Across to the left, as long as told.
 fn normal(p: Point, length: f32) -> Point {
-    let k = length / p[0].hypot(p[1]);
+    // not std's: a list must be the same on every machine
+    let k = length / Ours::hypot(p[0], p[1]);
     [-p[1] * k, p[0] * k]
 }
 

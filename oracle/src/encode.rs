@@ -2,6 +2,8 @@
 
 use std::f32::consts::PI;
 
+use published::ours::Ours;
+
 use crate::shapes::{Point, SHAPES};
 use crate::tags::{CUBIC, F32, LINE, PATH, QUAD, STYLE, SUBPATH_END, TRANSFORM};
 use crate::values::Values;
@@ -15,7 +17,8 @@ const TRANSFORMS: [(u64, Made<[f32; 6]>); 8] = [
     (
         4,
         ("a turn", |v| {
-            let (sin, cos) = v.within(PI).sin_cos();
+            // not std's: a scene must be the same on every machine
+            let (sin, cos) = Ours::sin_cos(v.within(PI));
             [cos, sin, -sin, cos, v.within(64.), v.within(64.)]
         }),
     ),
