@@ -1,5 +1,8 @@
 // What the programs that replay a list have in common: the list's words, the words lent to a call and
 // their hash, and the last line.
+ghost use mathlib.Core.Path.{_≡_};
+ghost use lib.ListN.{length, replicate};
+ghost use Rattle.lists.specs.Lists.{mixedOf, hashOf};
 
 // What every lent word is at first.
 pub const LENT: u32 = 0xa5a5a5a5;
@@ -27,7 +30,9 @@ pub fn word(line: &[u8], k: usize) -> u32 {
     w
 }
 
-pub fn fill(words: &mut [u32], word: u32) {
+pub fn fill(words: &mut [u32], word: u32)
+    ensures { λ _. ⌜ now (words .exit) ≡ replicate (length (now (words .entry))) word ⌝ }
+{
     let mut i: usize = 0;
     while i < words.len() {
         words[i] = word;
@@ -35,12 +40,16 @@ pub fn fill(words: &mut [u32], word: u32) {
     }
 }
 
-fn mixed(h: u32) -> u32 {
+fn mixed(h: u32) -> u32
+    ensures { λ r. ⌜ r ≡ mixedOf h ⌝ }
+{
     ((h as u64) * 16777619 % 4294967296) as u32
 }
 
 // FNV-1a, 32 bits, taken a word at a time.
-pub fn hash(words: &[u32]) -> u32 {
+pub fn hash(words: &[u32]) -> u32
+    ensures { λ r. ⌜ r ≡ hashOf (now (words .entry)) ⌝ }
+{
     let mut h: u32 = 0x811c9dc5;
     let mut i: usize = 0;
     while i < words.len() {
