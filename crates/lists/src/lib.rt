@@ -2,29 +2,30 @@
 // their hash, and the last line.
 ghost use mathlib.Core.Path.{_≡_};
 ghost use lib.ListN.{length, replicate};
-ghost use Rattle.lists.specs.Lists.{mixedOf, hashOf};
+ghost use Rattle.lists.specs.Lists.{digitOf, wordAt, mixedOf, hashOf};
 
 // What every lent word is at first.
 pub const LENT: u32 = 0xa5a5a5a5;
 
-fn wide(b: u8) -> u32 {
-    b as u32
-}
-
-fn digit(b: u8) -> u32 {
-    let low = wide(b) % 16;
-    if b < b'a' { low } else { low + 9 }
+// Below 16, whatever the byte.
+fn digit(b: u8) -> u32
+    ensures { λ r. ⌜ r ≡ digitOf b ⌝ }
+{
+    let low = b as u32 % 16;
+    if b < b'a' { low } else { (low + 9) % 16 }
 }
 
 // The word k of a line, whose words are eight hex digits with one byte behind them; 0 behind the last.
-pub fn word(line: &[u8], k: usize) -> u32 {
+pub fn word(line: &[u8], k: usize) -> u32
+    ensures { λ r. ⌜ r ≡ wordAt (now (line .entry)) k ⌝ }
+{
     if line.len() / 9 <= k {
         return 0;
     }
     let mut w: u32 = 0;
     let mut i: usize = 0;
     while i < 8 {
-        w = (w << 4) | digit(line[k * 9 + i]);
+        w = w * 16 + digit(line[k * 9 + i]);
         i += 1;
     }
     w
