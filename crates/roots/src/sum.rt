@@ -47,6 +47,17 @@ fn hypot_digits(a: u32, b: u32) -> u32
     pack(feed2(s, w, d + 1), u)
 }
 
+// The same where the larger is subnormal or zero. Two zeros come up often, in the scale of an even transform, so they are told at once.
+fn hypot_small(a: u32, b: u32) -> u32
+    requires { ⌜ (b ≤ a) × (a < 0x7f80_0000) ⌝ }
+    ensures { λ r. ⌜ rootBits 2 (magBits a * magBits a + magBits b * magBits b) r ⌝ }
+{
+    if a == 0 {
+        return 0;
+    }
+    hypot_digits(a, b)
+}
+
 // A candidate: 24 digits that may be those of the root of the sum of the squares.
 fn guess_sum(a: u32, b: u32) -> u64
     requires { ⌜ (b ≤ a) × (a < 0x7f80_0000) ⌝ }
@@ -85,7 +96,7 @@ pub(crate) fn hypot_bits(a: u32, b: u32) -> u32
     ensures { λ r. ⌜ rootBits 2 (magBits a * magBits a + magBits b * magBits b) r ⌝ }
 {
     if a < 0x80_0000 {
-        return hypot_digits(a, b);
+        return hypot_small(a, b);
     }
     let p = fields(a);
     let o = fields(b);
