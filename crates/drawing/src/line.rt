@@ -57,10 +57,10 @@ impl IntBbox {
     pub fn add_pt(self, pt: Vec2) -> IntBbox
         ensures { λ r. ⌜ r ≡ boxWith self pt ⌝ }
     {
-        let x0 = lower(self.x0, maths::to_i32(maths::floor(pt.x)));
-        let y0 = lower(self.y0, maths::to_i32(maths::floor(pt.y)));
-        let x1 = higher(self.x1, maths::to_i32(maths::ceil(pt.x)));
-        let y1 = higher(self.y1, maths::to_i32(maths::ceil(pt.y)));
+        let x0 = lower(self.x0, maths::floor_i32(pt.x));
+        let x1 = higher(self.x1, maths::ceil_i32(pt.x));
+        let y0 = lower(self.y0, maths::floor_i32(pt.y));
+        let y1 = higher(self.y1, maths::ceil_i32(pt.y));
         IntBbox { x0, y0, x1, y1 }
     }
 }

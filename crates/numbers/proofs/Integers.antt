@@ -1,13 +1,13 @@
 -- The conversions between f32 and the integers, where the code's tests lead. Assumes nothing.
 use mathlib.Core.Path.{_≡_, refl, ap, _∙_, subst}
-use mathlib.Core.Bool.{true, false, not, cond}
-use Prim.Native.Nat.{ℕ, zero, suc, _+_, _-_, _*_, _/_, _≤_, _<_, min}
+use mathlib.Core.Bool.{Bool, true, false, not, cond}
+use Prim.Native.Nat.{ℕ, zero, suc, _+_, _*_, _/_, _≤_, _<_, min}
 use native.Mathlib.Nat.{lt-of-lt-of-le, lt-of-le-of-lt, zero-lt-suc, mul-one, mul-pos, mul-le-mul-right, div-lt-iff-lt-mul, le-div-iff-mul-le}
 use native.Mathlib.Omega.{arith}
 use lib.IntN.{ℤ, pos, negsuc, negℤ, _-ℤ_, +ℤ-idl}
 use lib.Dec.{T, ltb→lt, lt→ltb, le→leb, nltb→le, lit≤, lit<, T-not}
 use lib.Signed.{mag}
-use mir.Syntax.{w32, w64}
+use mir.Syntax.{w32}
 use mir.Val.{SFits, toZ, ofZ}
 use mir.ValLaws.{toZ-pos, toZ-ofZ}
 use lib.Ieee.{Float, nan, inf, fin, binary32, up, down, neg, toSigned, toUnsigned, inFloat, lt}
@@ -99,47 +99,42 @@ pub small-exact : (k : ℕ) → k < 16777216 → T (inFloat binary32 (pos k))
 unfolding inFloat
 small-exact k h = le→leb k 16777216 (omega arith)
 
--- ---- an i32 from its size: at least -2 ^ 31
-minus-in : (a : ℕ) → a ≤ 2147483648 → mag (negℤ (pos a)) < 2147483648
+-- ---- an i32 from its size
+pub read-back : {z : ℤ} → mag z < 2147483648 → toZ w32 (ofZ w32 z) ≡ z
+read-back {z} h = toZ-ofZ w32 z (record { sfits = h })
+
+pub plus : (a : ℕ) → a ≤ 2147483647 → toZ w32 a ≡ pos a
+plus a h = toZ-pos w32 a (lt-of-le-of-lt h (lit< tt))
+
+minus-in : (a : ℕ) → a ≤ 2147483647 → mag (negℤ (pos a)) < 2147483648
 minus-in zero h = lit< tt
-minus-in (suc a) h = h
+minus-in (suc a) h = lt-of-lt-of-le h (lit≤ tt)
 
-minus-is : (a : ℕ) → a ≤ 2147483648 → pos 0 -ℤ toZ w64 a ≡ negℤ (pos a)
-minus-is a h = ap (λ (z : ℤ). pos 0 -ℤ z) (toZ-pos w64 a (lt-of-le-of-lt h (lit< tt))) ∙ +ℤ-idl (negℤ (pos a))
+minus-is : (a : ℕ) → a ≤ 2147483647 → pos 0 -ℤ toZ w32 a ≡ negℤ (pos a)
+minus-is a h = ap (λ (z : ℤ). pos 0 -ℤ z) (plus a h) ∙ +ℤ-idl (negℤ (pos a))
 
-pub minus-fits : (a : ℕ) → a ≤ 2147483648 → SFits w64 (pos 0 -ℤ toZ w64 a)
-minus-fits a h = rw (minus-is a h) (record { sfits = lt-of-lt-of-le (minus-in a h) (lit≤ tt) })
+pub minus-fits : (a : ℕ) → a ≤ 2147483647 → SFits w32 (pos 0 -ℤ toZ w32 a)
+minus-fits a h = rw (minus-is a h) (record { sfits = minus-in a h })
 
-minus-read : (a : ℕ) → a ≤ 2147483648 → toZ w64 (ofZ w64 (pos 0 -ℤ toZ w64 a)) ≡ negℤ (pos a)
-minus-read a h = toZ-ofZ w64 (pos 0 -ℤ toZ w64 a) (minus-fits a h) ∙ minus-is a h
+pub minus : (a : ℕ) → a ≤ 2147483647 → toZ w32 (ofZ w32 (pos 0 -ℤ toZ w32 a)) ≡ negℤ (pos a)
+minus a h = ap (λ (z : ℤ). toZ w32 (ofZ w32 z)) (minus-is a h) ∙ read-back (minus-in a h)
 
-pub minus-narrow : (a : ℕ) → a ≤ 2147483648 → SFits w32 (toZ w64 (ofZ w64 (pos 0 -ℤ toZ w64 a)))
-minus-narrow a h = rw (minus-read a h) (record { sfits = minus-in a h })
+-- ---- and at the ends of its range
+ends : (a : ℕ) → 2147483647 < a → (2147483648 ≡ min a 2147483648) × (2147483647 ≡ min a 2147483647)
+ends a h = (omega arith, omega arith)
 
-least-at : (a : ℕ) → 2147483648 < a → 2147483648 ≡ min a 2147483648
-least-at a h = omega arith
+within : (a : ℕ) → a ≤ 2147483647 → (a ≡ min a 2147483648) × (a ≡ min a 2147483647)
+within a h = (omega arith, omega arith)
 
-least-not : (a : ℕ) → a ≤ 2147483648 → a ≡ min a 2147483648
-least-not a h = omega arith
-
-pub least : (a : ℕ) → 2147483648 < a → negsuc 2147483647 ≡ negℤ (pos (min a 2147483648))
-least a h = ap (λ (z : ℕ). negℤ (pos z)) (least-at a h)
-
-pub minus : (a : ℕ) → a ≤ 2147483648 → toZ w32 (ofZ w32 (toZ w64 (ofZ w64 (pos 0 -ℤ toZ w64 a)))) ≡ negℤ (pos (min a 2147483648))
-minus a h = toZ-ofZ w32 (toZ w64 (ofZ w64 (pos 0 -ℤ toZ w64 a))) (minus-narrow a h) ∙ minus-read a h ∙ ap (λ (z : ℕ). negℤ (pos z)) (least-not a h)
-
--- ---- at most 2 ^ 31 - 1
-most-at : (a : ℕ) → 2147483647 < a → 2147483647 ≡ min a 2147483647
-most-at a h = omega arith
-
-most-not : (a : ℕ) → a ≤ 2147483647 → a ≡ min a 2147483647
-most-not a h = omega arith
+pub least : (a : ℕ) → 2147483647 < a → negsuc 2147483647 ≡ negℤ (pos (min a 2147483648))
+least a h = ap (λ (z : ℕ). negℤ (pos z)) (ends a h .0)
 
 pub most : (a : ℕ) → 2147483647 < a → pos 2147483647 ≡ pos (min a 2147483647)
-most a h = ap pos (most-at a h)
+most a h = ap pos (ends a h .1)
 
-pub plus : (a : ℕ) → a ≤ 2147483647 → toZ w32 a ≡ pos (min a 2147483647)
-plus a h = toZ-pos w32 a (lt-of-le-of-lt h (lit< tt)) ∙ ap pos (most-not a h)
+pub uncapped : (s : Bool) (a : ℕ) → a ≤ 2147483647 → cond s (negℤ (pos a)) (pos a) ≡ cond s (negℤ (pos (min a 2147483648))) (pos (min a 2147483647))
+uncapped true a h = ap (λ (z : ℕ). negℤ (pos z)) (within a h .0)
+uncapped false a h = ap pos (within a h .1)
 
 -- ---- Rust's `x as i32`, by the size as a u32
 cap-twice : (a : ℕ) → (min (min a 4294967295) 2147483648 ≡ min a 2147483648) × (min (min a 4294967295) 2147483647 ≡ min a 2147483647)
@@ -154,4 +149,4 @@ by-size (fin true m e) = ap (λ (z : ℕ). negℤ (pos z)) (cap-twice (m * up e 
 by-size (fin false m e) = ap pos (cap-twice (m * up e / down e) .1)
 
 pub as-signed : (x : Float) (z : ℤ) → let a = toUnsigned 32 (absOf x) in z ≡ cond (signOf x) (negℤ (pos (min a 2147483648))) (pos (min a 2147483647)) → toZ w32 (ofZ w32 z) ≡ toSigned 31 x
-as-signed x z h = ap (λ (y : ℤ). toZ w32 (ofZ w32 y)) (h ∙ by-size x) ∙ toZ-ofZ w32 (toSigned 31 x) (record { sfits = toSigned-in 31 x })
+as-signed x z h = ap (λ (y : ℤ). toZ w32 (ofZ w32 y)) (h ∙ by-size x) ∙ read-back (toSigned-in 31 x)

@@ -1,23 +1,23 @@
 -- A float below 2 ^ 23 as a whole number, by a sum with 2 ^ 23; and the sign put back. Assumes nothing.
 use mathlib.Core.Path.{_≡_, refl, sym, ap, _∙_, subst}
-use mathlib.Core.Bool.{Bool, true, false, not}
+use mathlib.Core.Bool.{Bool, true, false, not, cond}
 use Prim.Native.Nat.{ℕ, zero, suc, _+_, _-_, _*_, _/_, _≤_, _<_, min}
 use native.Mathlib.Nat.{zero-lt-suc, zero-mul, mul-one, sub-add-cancel, le-trans, le-of-eq, lt-of-le-of-lt, div-lt-iff-lt-mul}
 use native.Mathlib.Omega.{arith}
-use lib.IntN.{ℤ, pos}
+use lib.IntN.{ℤ, pos, negℤ}
 use lib.Dec.{T, ltb→lt, nltb→le, lit≤, lit<}
-use lib.Ieee.{Float, nan, inf, fin, binary32, up, down, round, neg, add, sub, lt, fits, ofInt, toUnsigned, inUnsigned}
+use lib.Ieee.{Float, nan, inf, fin, binary32, up, down, round, neg, add, sub, lt, fits, ofInt, toSigned, toUnsigned, inUnsigned}
 use lib.Ieee.Fits.{down-pos}
 use lib.Ieee.Exact.{HasValue}
 use lib.Ieee.Nearest.{closest}
 use lib.Ieee.Back.{round-whole, unsigned-back}
 use Rattle.laws.specs.Dyadic.{add-value}
 use Rattle.numbers.specs.Words.{signOf, signed, absOf}
-use Rattle.numbers.specs.Whole.{quot, wholeOf}
-use Rattle.numbers.proofs.Bits.{zeroed, positive}
-use Rattle.numbers.proofs.Integers.{small-exact}
+use Rattle.numbers.specs.Whole.{quot, wholeOf, wholeSigned}
+use Rattle.numbers.proofs.Bits.{yes, no, zeroed, positive}
+use Rattle.numbers.proofs.Integers.{small-exact, uncapped}
 use Rattle.numbers.proofs.Nearest.{closest-small, round-closest, closest-large, above, below, sub-whole, lt-values, is-quot, is-quot-up}
-use Rattle.numbers.specs.WholeLaws.{whole-large, whole-neg}
+use Rattle.numbers.specs.WholeLaws.{quot-more, quot-same, quot-le, small, whole-large, whole-neg, whole-signed}
 
 abbrev pub limit : Float
 limit = fin false 1 (pos 23)
@@ -186,3 +186,63 @@ pub kept : (u : Bool) (x : Float) → T (fits binary32 x) → T (not (lt (absOf 
 kept u nan F h = unfold wholeOf in refl
 kept u (inf s) F h = unfold wholeOf in refl
 kept u (fin s m e) F h = sym (whole-large u s m e F (over s m e h))
+
+-- ---- x as an i32: f, the whole number below its size a, tells the one above
+abbrev pub counted : Bool → Float → Float → ℕ
+counted u a f = cond u (cond (lt f a) (toUnsigned 32 f + 1) (toUnsigned 32 f)) (toUnsigned 32 f)
+
+pub record Signed (u : Bool) (x a f : Float) : Type 0 where
+  pub whole : T (inUnsigned binary32 32 f)
+  pub low : toUnsigned 32 f ≤ 8388608
+  pub small : counted u a f ≤ 2147483647
+  pub value : cond (signOf x) (negℤ (pos (counted u a f))) (pos (counted u a f)) ≡ toSigned 31 (wholeOf u x)
+
+module _ (m : ℕ) (e : ℤ) (h : m * up e < 8388608 * down e) where
+  abbrev num : ℕ
+  num = m * up e
+
+  abbrev den : ℕ
+  den = down e
+
+  abbrev size : Float
+  size = fin false m e
+
+  abbrev cut-off : Float
+  cut-off = wholeOf false size
+
+  next : (t : Bool) → lt cut-off size ≡ t → cond t (num / den + 1) (num / den) ≡ quot true num den
+  next t p = go t p (lt-values cut-off size (num / den) 1 num den (zero-lt-suc 0) (down-pos e) (small false false m e h) (refl, refl))
+    where
+      go : (t : Bool) → lt cut-off size ≡ t → (T (lt cut-off size) → num / den * den < num * 1) × (T (not (lt cut-off size)) → num * 1 ≤ num / den * den) → cond t (num / den + 1) (num / den) ≡ quot true num den
+      go true p v = sym (quot-more num den (down-pos e) (subst (λ (z : ℕ). num / den * den < z) (mul-one num) (v .0 (yes p))))
+      go false p v = sym (quot-same num den (down-pos e) (subst (λ (z : ℕ). z ≤ num / den * den) (mul-one num) (v .1 (no p))))
+
+  either-way : (u : Bool) → cond u (cond (lt cut-off size) (num / den + 1) (num / den)) (num / den) ≡ quot u num den
+  either-way true = next (lt cut-off size) refl
+  either-way false = refl
+
+  signed-fin : (u s : Bool) → T (fits binary32 (fin s m e)) → Signed u (fin s m e) size cut-off
+  unfolding wholeOf ofInt signOf
+  signed-fin u s F =
+      let q = num / den in
+      let top : (v : Bool) → quot v num den ≤ 8388608 = λ v. quot-le v num den 8388608 (down-pos e) h in
+      let b = unsigned-back binary32 32 q (small-exact q (lt-of-le-of-lt (top false) (lit< tt))) (lt-of-le-of-lt (top false) (lit< tt)) in
+      let k : counted u size cut-off ≡ quot u num den = ap (λ (z : ℕ). cond u (cond (lt cut-off size) (z + 1) z) z) (b .1) ∙ either-way u in
+      let i : quot u num den ≤ 2147483647 = le-trans (top u) (lit≤ tt) in
+      record {
+        whole = b .0;
+        low = le-trans (le-of-eq (b .1)) (top false);
+        small = le-trans (le-of-eq k) i;
+        value = ap (λ (z : ℕ). cond s (negℤ (pos z)) (pos z)) k ∙ uncapped s (quot u num den) i ∙ sym (whole-signed u 31 (fin s m e) F ∙ unfold wholeSigned in refl);
+      }
+
+signed-size : (u : Bool) (x : Float) → T (fits binary32 x) → T (lt (absOf x) limit) → Signed u x (absOf x) (wholeOf false (absOf x))
+unfolding absOf signed signOf neg
+signed-size u nan F h = absurd (no-nan h)
+signed-size u (inf true) F h = absurd (no-inf h)
+signed-size u (inf false) F h = absurd (no-inf h)
+signed-size u (fin true m e) F h = signed-fin m e (under m e h) u true F
+signed-size u (fin false m e) F h = signed-fin m e (under m e h) u false F
+
+pub as-i32 : (u : Bool) (x a f : Float) → T (fits binary32 x) → a ≡ absOf x → T (lt a limit) → f ≡ wholeOf false a → Signed u x a f
+as-i32 u x a f F p h q = rw (q, p) (signed-size u x F (subst (λ (v : Float). T (lt v limit)) p h))

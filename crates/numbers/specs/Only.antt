@@ -49,6 +49,12 @@ floor-only x = determined (floorOf x)
 pub ceil-only : (x : Float) → Only (λ (r : Float). r ≡ ceilOf x)
 ceil-only x = determined (ceilOf x)
 
+pub floor-i32-only : (x : Float) → Only (λ (r : ℤ). r ≡ toSigned 31 (floorOf x))
+floor-i32-only x = determined (toSigned 31 (floorOf x))
+
+pub ceil-i32-only : (x : Float) → Only (λ (r : ℤ). r ≡ toSigned 31 (ceilOf x))
+ceil-i32-only x = determined (toSigned 31 (ceilOf x))
+
 pub to-i32-only : (x : Float) → Only (λ (r : ℤ). r ≡ toSigned 31 x)
 to-i32-only x = determined (toSigned 31 x)
 

@@ -71,7 +71,7 @@ quot-one false n = div-one n
 one-more : (q b : ℕ) → q < b → q + 1 ≤ b
 one-more q b h = omega arith
 
-quot-le : (u : Bool) (n d b : ℕ) → 0 < d → n < b * d → quot u n d ≤ b
+pub quot-le : (u : Bool) (n d b : ℕ) → 0 < d → n < b * d → quot u n d ≤ b
 quot-le false n d b D h = le-of-lt (div-lt-iff-lt-mul D .1 h)
 quot-le true n d b D h = go (either (ltb (n / d * d) n)) (div-lt-iff-lt-mul D .1 h)
   where
@@ -98,7 +98,7 @@ whole-large u s m e F l =
     ap (λ (z : ℕ). round binary32 s (quot u (m * up e) z) 1) d ∙ ap (λ (z : ℕ). round binary32 s z 1) (quot-one u (m * up e)) ∙ ap (λ (z : ℕ). round binary32 s (m * up e) z) (sym d) ∙ round-own binary32 s m e F
 
 -- ---- the result is exact
-small : (u s : Bool) (m : ℕ) (e : ℤ) → m * up e < 8388608 * down e → HasValue (wholeOf u (fin s m e)) s (quot u (m * up e) (down e)) 1
+pub small : (u s : Bool) (m : ℕ) (e : ℤ) → m * up e < 8388608 * down e → HasValue (wholeOf u (fin s m e)) s (quot u (m * up e) (down e)) 1
 unfolding wholeOf
 small u s m e h = round-whole binary32 s (quot u (m * up e) (down e)) (le-trans (quot-le u (m * up e) (down e) 8388608 (down-pos e) h) (lit≤ tt))
 
@@ -197,7 +197,7 @@ value-unsigned w (fin t m e) s q v =
     ap (λ (z : Bool). cond z 0 (min (m * up e / down e) (2 ^ w - 1))) (v .0)
     ∙ ap (λ (z : ℕ). cond s 0 (min z (2 ^ w - 1))) (value-quot m e q (v .1))
 
-whole-signed : (u : Bool) (h : ℕ) (x : Float) → T (fits binary32 x) → toSigned h (wholeOf u x) ≡ wholeSigned u h x
+pub whole-signed : (u : Bool) (h : ℕ) (x : Float) → T (fits binary32 x) → toSigned h (wholeOf u x) ≡ wholeSigned u h x
 unfolding wholeSigned
 whole-signed u h nan F = unfold toSigned wholeOf in refl
 whole-signed u h (inf s) F = unfold toSigned wholeOf in refl

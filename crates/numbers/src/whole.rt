@@ -1,7 +1,7 @@
 // Whole numbers: the conversions between f32 and the 32-bit integers, the floor and the ceiling.
 ghost use mathlib.Core.Path.{_≡_};
 ghost use mathlib.Core.Bool.{false, not, cond};
-ghost use Prim.Native.Nat.{min};
+ghost use Prim.Native.Nat.{_+_, _≤_, min};
 ghost use lib.IntN.{pos, negℤ};
 ghost use lib.Dec.{T};
 ghost use lib.Ieee.{fin, binary32, lt, toSigned, toUnsigned, ofInt};
@@ -85,20 +85,29 @@ pub fn to_u32(x: f32) -> u32
     part.count
 }
 
+// a, or -a where s is true.
+fn with_sign(s: bool, a: u32) -> i32
+    requires { ⌜ a ≤ 2147483647 ⌝ }
+    ensures { λ r. ⌜ r ≡ cond s (negℤ (pos a)) (pos a) ⌝ }
+{
+    let k = a as i32;
+    if s {
+        return 0 - k;
+    }
+    k
+}
+
 // a with the sign s, at most the largest i32 and at least the smallest.
 fn capped(s: bool, a: u32) -> i32
     ensures { λ r. ⌜ r ≡ cond s (negℤ (pos (min a 2147483648))) (pos (min a 2147483647)) ⌝ }
 {
-    if s {
-        if a > 2147483648 {
+    if a > 2147483647 {
+        if s {
             return -2147483648;
         }
-        return (0 - (a as i64)) as i32;
-    }
-    if a > 2147483647 {
         return 2147483647;
     }
-    a as i32
+    with_sign(s, a)
 }
 
 // Rust's `x as i32`.
@@ -129,4 +138,46 @@ pub fn ceil(x: f32) -> f32
     ensures { λ r. ⌜ r ≡ ceilOf x ⌝ }
 {
     to_whole(!words::is_negative(x), x)
+}
+
+// The whole number k, or the next one: where that is wanted and there is more than k.
+fn next(away: bool, more: bool, k: u32) -> u32
+    requires { ⌜ k ≤ 8388608 ⌝ }
+    ensures { λ r. ⌜ r ≡ cond away (cond more (k + 1) k) k ⌝ }
+{
+    if away {
+        if more {
+            return k + 1;
+        }
+        return k;
+    }
+    k
+}
+
+// x as a whole number, and that as i32: at once. The whole number below the size tells the one above, so that the
+// floor and the ceiling of one x have nearly all their work in common.
+fn to_whole_i32(away: bool, x: f32) -> i32
+    ensures { λ r. ⌜ r ≡ toSigned 31 (wholeOf away x) ⌝ }
+{
+    let a = words::abs(x);
+    if a < 8388608.0 {
+        let f = near(false, a);
+        let k = next(away, f < a, f as u32);
+        return with_sign(words::is_negative(x), k);
+    }
+    to_i32(x)
+}
+
+// Rust's `x.floor() as i32`.
+pub fn floor_i32(x: f32) -> i32
+    ensures { λ r. ⌜ r ≡ toSigned 31 (floorOf x) ⌝ }
+{
+    to_whole_i32(words::is_negative(x), x)
+}
+
+// Rust's `x.ceil() as i32`.
+pub fn ceil_i32(x: f32) -> i32
+    ensures { λ r. ⌜ r ≡ toSigned 31 (ceilOf x) ⌝ }
+{
+    to_whole_i32(!words::is_negative(x), x)
 }
