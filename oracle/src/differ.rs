@@ -64,8 +64,11 @@ fn show_call(name: &str, holds: &dyn Fn(&Given) -> bool) {
     shrink(&first.expect("there are more scenes"), holds).show();
 }
 
-pub fn show() {
+pub fn show_functions() {
     FUNCTIONS.iter().for_each(show_function);
+}
+
+pub fn show_calls() {
     show_call("other lines than with std's mathematics", &lines_differ);
     show_call("accepted by the Rust without overflow checks", &address_wraps);
     for number in 1..=7 {
