@@ -1,4 +1,4 @@
-//! Compares whole calls of the published Rust with the library's: the answers, every lent word, every box.
+//! Compares whole calls of the published Rust with the port's: the answers, every lent word, every box.
 
 use std::collections::BTreeMap;
 use std::thread;
@@ -39,19 +39,19 @@ fn source_scan(given: &Given) -> Left {
     Left { number, tag: 0, count, words: guarded(&prefixes, !0), boxes: Vec::new() }
 }
 
-fn library_scan(given: &Given) -> Left {
+fn port_scan(given: &Given) -> Left {
     let mut words = guarded(&given.prefixes, !0);
     let told = hinthevoun::scan(&given.scene, given.tag_base, &mut words[..given.prefixes.len()]);
     left(told.map(|count| count as u64), words, Vec::new())
 }
 
-/// The tag that the library told is where the source's is looked for first.
+/// The tag that the port told is where the source's is looked for first.
 fn source_flatten(given: &Given, guess: u64) -> Left {
     let Told { number, tag, count, lines, boxes } = given.told(guess);
     Left { number, tag, count, words: guarded(&lines, !0), boxes: boxes_of(&boxes) }
 }
 
-fn library_flatten(given: &Given) -> Left {
+fn port_flatten(given: &Given) -> Left {
     let mut words = guarded(&given.lines, !0);
     let mut boxes = boxes_of(&given.boxes);
     let layout = Layout {
@@ -83,21 +83,21 @@ fn left(told: Result<u64, Refusal>, words: Vec<u32>, boxes: Vec<PathBox>) -> Lef
 struct Both {
     call: &'static str,
     source: Left,
-    library: Left,
+    port: Left,
 }
 
 impl Both {
     fn scan(given: &Given) -> Self {
-        Self { call: "scan", source: source_scan(given), library: library_scan(given) }
+        Self { call: "scan", source: source_scan(given), port: port_scan(given) }
     }
 
     fn flatten(given: &Given) -> Self {
-        let library = library_flatten(given);
-        Self { call: "flatten", source: source_flatten(given, library.tag), library }
+        let port = port_flatten(given);
+        Self { call: "flatten", source: source_flatten(given, port.tag), port }
     }
 
     fn differ(&self) -> bool {
-        self.source != self.library
+        self.source != self.port
     }
 }
 
@@ -109,15 +109,15 @@ fn first<T: PartialEq>(a: &[T], b: &[T]) -> Option<usize> {
     a.iter().zip(b).position(|(a, b)| a != b)
 }
 
-fn show(Both { call, source, library }: &Both) {
-    for (who, left) in [("the published Rust", source), ("the library", library)] {
+fn show(Both { call, source, port }: &Both) {
+    for (who, left) in [("the published Rust", source), ("the port", port)] {
         println!("  {call} by {who}: number {}, tag {}, count {}", left.number, left.tag, left.count);
     }
-    if let Some(i) = first(&source.words, &library.words) {
-        println!("  word {i}: {:08x}, {:08x}", source.words[i], library.words[i]);
+    if let Some(i) = first(&source.words, &port.words) {
+        println!("  word {i}: {:08x}, {:08x}", source.words[i], port.words[i]);
     }
-    if let Some(i) = first(&source.boxes, &library.boxes) {
-        println!("  box {i}: {:?}, {:?}", source.boxes[i], library.boxes[i]);
+    if let Some(i) = first(&source.boxes, &port.boxes) {
+        println!("  box {i}: {:?}, {:?}", source.boxes[i], port.boxes[i]);
     }
 }
 
@@ -203,4 +203,34 @@ pub fn compare(seed: u64, scenes: u64, with_names: bool) -> bool {
     println!("{} lines", sum.lines);
     println!("{scenes} scenes of seed {seed}, {} differ", sum.differ.len());
     sum.differ.is_empty()
+}
+
+#[cfg(test)]
+mod tests {
+    use super::*;
+    use crate::scenes::{EDGES, ROOMS, lend};
+    use crate::stops;
+    use crate::values::Values;
+
+    /// What the table of edges lacks: one more entry there would make other scenes of every seed.
+    const TRANSFORMS_PAST_END: fn(&mut Values, &mut Given) = |_, g| g.transform_base = g.scene.len() as u32 + 1;
+
+    /// Every edge with every room, on the same scenes.
+    #[test]
+    fn edges() {
+        stops::watch();
+        let values = &mut Values::from(1);
+        let edges = EDGES.map(|entry| entry.1.1);
+        for index in 0..40 {
+            let given = scene(1, index).given;
+            for change in edges.iter().chain([&TRANSFORMS_PAST_END]) {
+                for (_, (name, room)) in ROOMS {
+                    let mut at_edge = given.clone();
+                    change(values, &mut at_edge);
+                    lend(values, &mut at_edge, room);
+                    assert!(!either_differs(&at_edge), "scene {index}, {name}: {at_edge:x?}");
+                }
+            }
+        }
+    }
 }

@@ -54,7 +54,7 @@ fn sound(values: &mut Values, parts: &Parts) -> Given {
 }
 
 /// A name and what is done to a call.
-type Done = (&'static str, fn(&mut Values, &mut Given));
+pub type Done = (&'static str, fn(&mut Values, &mut Given));
 
 fn end(given: &Given) -> u32 {
     given.scene.len() as u32
@@ -68,7 +68,7 @@ fn needed(given: &Given) -> usize {
     last.map_or(0, |i| 4 * i + 4)
 }
 
-const EDGES: [(u64, Done); 18] = [
+pub const EDGES: [(u64, Done); 18] = [
     (1, ("the tag base at the scene's end", |_, g| g.tag_base = end(g))),
     (1, ("the tag base one past the scene's end", |_, g| g.tag_base = end(g) + 1)),
     (1, ("the data base at the scene's end", |_, g| g.data_base = end(g))),
@@ -85,13 +85,13 @@ const EDGES: [(u64, Done); 18] = [
             (g.tag_base, g.data_base) = (0, 0);
         }),
     ),
-    (1, ("a workgroup more", |_, g| g.n_wg += 1)),
+    (1, ("a workgroup more", |_, g| g.n_wg = g.n_wg.saturating_add(1))),
     (1, ("the most workgroups", |_, g| g.n_wg = u32::MAX)),
-    (3, ("the scene one word short", |_, g| g.scene.truncate(g.scene.len() - 1))),
+    (3, ("the scene one word short", |_, g| g.scene.truncate(g.scene.len().saturating_sub(1)))),
     (3, ("prefixes just enough", |_, g| g.prefixes.truncate(needed(g)))),
     (3, ("prefixes one word short", |_, g| g.prefixes.truncate(needed(g).saturating_sub(1)))),
     (1, ("no prefixes", |_, g| g.prefixes.clear())),
-    (2, ("one box short", |_, g| g.boxes.truncate(g.boxes.len() - 1))),
+    (2, ("one box short", |_, g| g.boxes.truncate(g.boxes.len().saturating_sub(1)))),
     (1, ("no boxes", |_, g| g.boxes.clear())),
     (1, ("a box more", |v, g| g.boxes.push(some_box(v)))),
 ];
@@ -163,9 +163,9 @@ const DAMAGES: [(u64, Done); 9] = [
 ];
 
 /// The words lent for lines, where so many lines would be stored.
-type Room = (&'static str, fn(&mut Values, usize) -> usize);
+pub type Room = (&'static str, fn(&mut Values, usize) -> usize);
 
-const ROOMS: [(u64, Room); 7] = [
+pub const ROOMS: [(u64, Room); 7] = [
     (12, ("room to spare", |v, lines| 6 * lines + v.below(20) as usize)),
     (8, ("room exactly full", |_, lines| 6 * lines)),
     (2, ("room one word short", |_, lines| (6 * lines).saturating_sub(1))),
@@ -179,6 +179,12 @@ const ROOMS: [(u64, Room); 7] = [
 fn some_lines(values: &mut Values, n: usize) -> Vec<u32> {
     let word = values.word();
     (0..n as u32).map(|i| word.wrapping_mul(i) | u32::from(i % 6 == 1)).collect()
+}
+
+/// Lends room for lines, more or less than the call needs.
+pub fn lend(values: &mut Values, given: &mut Given, room: fn(&mut Values, usize) -> usize) {
+    let lent = room(values, given.lines_stored(MOST_LINES));
+    given.lines = some_lines(values, lent);
 }
 
 /// The scene of an index: the same whatever others are made.
@@ -200,8 +206,7 @@ pub fn scene(seed: u64, index: u64) -> Scene {
     }
     let (name, room) = *values.pick(&ROOMS);
     parts.names.push(name);
-    let lent = room(values, given.lines_stored(MOST_LINES));
-    given.lines = some_lines(values, lent);
+    lend(values, &mut given, room);
     Scene { given, names: parts.names }
 }
 
