@@ -67,7 +67,25 @@ float hinth_asin(float x);
 float hinth_acos(float x);
 
 /*
- * Paths: from the tags, points, transforms and styles of a scene to lines.
+ * Paths: from the tags, points, transforms and styles of a scene to lines. docs/SCENE.md says how to write a scene; in
+ * short:
+ *
+ * A tag is a byte, four to a word, the lowest first. 0x03 is its type (0 no segment, 1 line, 2 quadratic, 3 cubic),
+ * 0x04 ends a subpath, 0x08 says f32 points and not i16, 0x10 ends a path, 0x20 and 0x40 begin the next transform and
+ * style. A tag belongs to the path, transform and style that the tags before it have come to. Behind the last tag are
+ * zeros.
+ *
+ * A segment has as many points behind its start as its type says; its start is the end of the one before, stored once.
+ * A subpath's last segment takes one point more, so that the next begins with its own start. An i16 point is one word,
+ * x in the low half; an f32 point is two.
+ *
+ * A transform is six f32: a, b, c, d, e, f take (x, y) to (a*x + c*y + e, b*x + d*y + f). A style is two words, flags
+ * and the line width as f32. Flags: 0x80000000 stroke, 0x40000000 even-odd, 0x30000000 join (0 bevel, 0x10000000
+ * miter, 0x20000000 round), 0x0c000000 start cap (0 butt, 0x04000000 square, 0x08000000 round), 0x03000000 end cap (0
+ * butt, 0x01000000 square, 0x02000000 round), the low 16 bits the miter limit as a binary16.
+ *
+ * A stroked subpath ends with a marker, which has the end bit. Of an open one it is a quadratic: the subpath's start
+ * again, and a point in the direction in which it began. Of a closed one it is a line to such a point.
  *
  * A list is lent as a pointer to its first element and then its number of elements: words for the lists of uint32_t and
  * uint64_t, records for the boxes. The pointer must be aligned and must not be null, also where the number is 0. A list
