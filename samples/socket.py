@@ -3,6 +3,7 @@
 
 The brim is one filled path with an oval opening in it, lines and curves in f32 points. A seam is stroked over it,
 2 units wide, with round joins and round caps. Device units are half a millimetre: the transform scales by 2.
+docs/SCENE.md says what the words mean.
 """
 import struct
 from pathlib import Path

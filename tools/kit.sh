@@ -20,11 +20,11 @@ start() {
 }
 
 # alone COMMAND..: runs it while no other script of this clone runs rt, since two at once break each other. The lock is on
-# the folder, since `rt ci` removes target/; the command does not inherit it.
+# the folder, since `rt ci` removes target/. The command inherits it, so an rt that outlives its script still holds it.
 alone() {
     {
-        flock --nonblock 9 || { say "another command proves in this folder; waiting for it"; flock 9; }
-        "$@" 9<&-
+        flock -n 9 || { say "another command proves in this folder; waiting for it"; flock 9; }
+        "$@"
     } 9<.
 }
 
@@ -38,10 +38,10 @@ made() {
 mark_of() { echo "target/made/${1##*/}"; }
 
 is_current() {
-    local mark made_by
+    local mark made_by newer
     mark=$(mark_of "$1")
     [ -f "$1" ] && [ -f "$mark" ] && read -r made_by <"$mark" && [ "$made_by" = "$machine $kit" ] || return 1
-    [ -z "$(find crates crates.txt tools/kit.sh tools/staticlib "$kit/KIT-ID" -cnewer "$mark" -print -quit)" ]
+    newer=$(find crates crates.txt tools/kit.sh tools/staticlib "$kit/KIT-ID" -cnewer "$mark" -print -quit) && [ -z "$newer" ]
 }
 
 make_current() {
