@@ -14,7 +14,8 @@ use Rattle.spiral.specs.Util.{eqOf, identityOf, applyOf}
 use Rattle.spiral.specs.Points.{FitsPoint, eq→same-point, identity-same}
 use Rattle.spiral.specs.declared.util.Vec2.{Vec2}
 use Rattle.drawing.specs.Sheet.{Event, line, noCount, noJoin}
-use Rattle.curve.specs.Fit.{point, isShort, cubicOf, tipAt, firstTip, placeOf}
+use Rattle.drawing.specs.Cubic.{point, cubicAt}
+use Rattle.curve.specs.Fit.{isShort, tipAt, firstTip, placeOf}
 use Rattle.curve.specs.Curve.{lineOf, linesOf, rangeOf, rangeEnd, Front, frontOf, Trail, onward, part, tipOf, accepted, walk, isPoint, sideEvents, deviceSide, localSide, eulerEvents}
 use Rattle.curve.specs.Walks.{walks, flatten-append}
 use Rattle.curve.specs.declared.fit.Tip.{Tip}
@@ -57,7 +58,7 @@ either-t false x y h k = k
 -- the end of the curve is not moved
 tip-one : (ps : List Vec2) → tipAt ps (part 65536) .t ≡ whole 1
 unfolding tipAt round lt
-tip-one ps = either-t (isShort (cubicOf ps (whole 1) .q)) _ _ refl refl
+tip-one ps = either-t (isShort (cubicAt ps (whole 1) .q)) _ _ refl refl
 
 module _ (s : Side) where
   abbrev Leads : Vec2 → Vec2 → List Event → Type 0

@@ -8,7 +8,8 @@ use Rattle.laws.specs.Binary32.{_⊕_, _⊖_, _⊗_, dec, whole}
 use Rattle.spiral.specs.Util.{newOf, lengthOf, eqOf, identityOf, applyOf}
 use Rattle.spiral.specs.declared.util.Vec2.{Vec2}
 use Rattle.drawing.specs.Sheet.{Event, noCount, lineThrough}
-use Rattle.curve.specs.Fit.{point, firstTip, tipAt, paramsOf, fitOf, placeOf}
+use Rattle.drawing.specs.Cubic.{point}
+use Rattle.curve.specs.Fit.{firstTip, tipAt, paramsOf, fitOf, placeOf}
 use Rattle.curve.specs.declared.fit.Tip.{Tip}
 use Rattle.curve.specs.declared.fit.Fit.{Fit}
 use Rattle.curve.specs.declared.Side.{Side}

@@ -3,27 +3,19 @@ use Prim.Native.Nat.{ℕ}
 use mathlib.Core.Bool.{Bool, cond}
 use mathlib.Core.List.{List}
 use lib.IntN.{pos}
-use lib.ListN.{getD}
-use lib.Ieee.{Float, nan, binary32, neg, lt, ofInt}
+use lib.Ieee.{Float, binary32, neg, lt, ofInt}
 use Rattle.laws.specs.Binary32.{_⊕_, _⊖_, _⊗_, _⊘_, dec, whole}
 use Rattle.maths.specs.Numbers.{absOf, ceilOf, clampOf}
 use Rattle.maths.specs.Roots.{sqrtOf, cbrtOf}
-use Rattle.spiral.specs.Util.{newOf, subOf, lengthSquaredOf}
+use Rattle.spiral.specs.Util.{subOf, lengthSquaredOf}
 use Rattle.spiral.specs.Euler.{fromPointsDerivs, fromAngles, fromParams, pointOf, espcIntApprox, espcIntInvApprox}
 use Rattle.spiral.specs.declared.util.Vec2.{Vec2}
 use Rattle.spiral.specs.declared.euler.CubicParams.{CubicParams}
-use Rattle.drawing.specs.Cubic.{cubicAt}
-use Rattle.drawing.specs.declared.cubic.CubicAt.{CubicAt}
+use Rattle.drawing.specs.Cubic.{point, cubicAt}
 use Rattle.curve.specs.declared.fit.Tip.{Tip}
 use Rattle.curve.specs.declared.fit.Fit.{Fit}
 use Rattle.curve.specs.declared.fit.EspcRobust.{EspcRobust}
 use Rattle.curve.specs.declared.fit.EspcRobust.the-variants.{LowK1, LowDist, Normal}
-
-abbrev pub point : List Vec2 → ℕ → Vec2
-point ps i = getD ps i (newOf nan nan)
-
-abbrev pub cubicOf : List Vec2 → Float → CubicAt
-cubicOf ps t = cubicAt (point ps 0) (point ps 1) (point ps 2) (point ps 3) t
 
 -- ---- where a range ends
 
@@ -35,13 +27,13 @@ isShort q = lt (lengthSquaredOf q) (dec 1 6 ⊗ dec 1 6)
 unfoldable pub firstTip : List Vec2 → Tip
 firstTip ps =
     let q = subOf (point ps 1) (point ps 0) in
-    record { p = point ps 0; q = cond (isShort q) (cubicOf ps (dec 1 6) .q) q; t = whole 0 }
+    record { p = point ps 0; q = cond (isShort q) (cubicAt ps (dec 1 6) .q) q; t = whole 0 }
 
 -- the point moves along with it, but not at the end of the curve
 unfoldable pub tipAt : List Vec2 → Float → Tip
 tipAt ps t =
-    let here = cubicOf ps t in
-    let near = cubicOf ps (t ⊖ dec 1 6) in
+    let here = cubicAt ps t in
+    let near = cubicAt ps (t ⊖ dec 1 6) in
     cond (isShort (here .q))
     (cond (lt t (whole 1)) (record { p = near .p; q = near .q; t = t ⊖ dec 1 6 }) (record { p = here .p; q = near .q; t = t }))
     (record { p = here .p; q = here .q; t = t })

@@ -1,7 +1,6 @@
 // One range of a cubic: where it ends, how far off a fitted spiral is, and the points along that spiral.
 ghost use mathlib.Core.Path.{_≡_};
-ghost use Rattle.curve.specs.Fit.{cubicOf, isShort, firstTip, tipAt, paramsOf, multiplierOf, integrandOf, timesRoot, lowDistOf, normalOf, robustOf, nFracOf, fitOf, spreadOf, placeOf};
-use drawing::cubic::CubicAt;
+ghost use Rattle.curve.specs.Fit.{isShort, firstTip, tipAt, paramsOf, multiplierOf, integrandOf, timesRoot, lowDistOf, normalOf, robustOf, nFracOf, fitOf, spreadOf, placeOf};
 use drawing::cubic::eval_cubic_and_deriv;
 use spiral::euler::CubicParams;
 use spiral::euler::EulerParams;
@@ -54,12 +53,6 @@ fn is_short(q: Vec2) -> bool
     q.length_squared() < DERIV_THRESH * DERIV_THRESH
 }
 
-fn cubic_at(points: [Vec2; 4], t: f32) -> CubicAt
-    ensures { λ r. ⌜ r ≡ cubicOf points t ⌝ }
-{
-    eval_cubic_and_deriv(points[0], points[1], points[2], points[3], t)
-}
-
 // Where the first range starts.
 pub fn first_tip(points: [Vec2; 4]) -> Tip
     ensures { λ r. ⌜ r ≡ firstTip points ⌝ }
@@ -67,7 +60,7 @@ pub fn first_tip(points: [Vec2; 4]) -> Tip
     let p = points[0];
     let q = points[1].sub(p);
     if is_short(q) {
-        let q = cubic_at(points, DERIV_EPS).q;
+        let q = eval_cubic_and_deriv(points, DERIV_EPS).q;
         return Tip { p, q, t: 0.0 };
     }
     Tip { p, q, t: 0.0 }
@@ -77,11 +70,11 @@ pub fn first_tip(points: [Vec2; 4]) -> Tip
 pub fn tip_at(points: [Vec2; 4], t: f32) -> Tip
     ensures { λ r. ⌜ r ≡ tipAt points t ⌝ }
 {
-    let here = cubic_at(points, t);
+    let here = eval_cubic_and_deriv(points, t);
     let p = here.p;
     let q = here.q;
     if is_short(q) {
-        let near = cubic_at(points, t - DERIV_EPS);
+        let near = eval_cubic_and_deriv(points, t - DERIV_EPS);
         let q = near.q;
         if t < 1.0 {
             let p = near.p;

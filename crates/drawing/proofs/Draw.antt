@@ -3,7 +3,6 @@ use Prim.Native.Nat.{ℕ, suc, _+_, _*_, _/_, _<_, _≤_}
 use mathlib.Core.Path.{_≡_, refl}
 use mathlib.Core.Bool.{Bool, true, false, _||_, _&&_}
 use mathlib.Core.List.{List, [], _∷_}
-use mathlib.Core.Logic.{_⊎_, ⊎-elim}
 use native.Mathlib.Numerals.{add-one}
 use native.Mathlib.Omega.{arith}
 use lib.Dec.{ltb}
@@ -13,32 +12,27 @@ use lib.Seq.{sets}
 use borrow.Author.Tests.{lt-ltb, le-ltb}
 use denote.Enum.Declared.{tagOf}
 use types.Run.{OneOf}
+use Rattle.refusals.specs.declared.Refusal.the-variants.{NotNumber, NoRoom, NoJoin}
 use Rattle.spiral.specs.declared.util.Vec2.{Vec2}
 use Rattle.spiral.specs.Util.{hasNan}
 use Rattle.drawing.specs.Sheet.{boxWith, line, noCount, noJoin, recordOf, hasRoom, stored, drawOn, draw, drawAll, isStopped, Drew}
+use Rattle.drawing.specs.SheetLaws.{drew}
 use Rattle.drawing.specs.declared.line.IntBbox.{IntBbox}
 use Rattle.drawing.specs.declared.line.Pen.{Pen}
 use Rattle.drawing.specs.declared.line.Drawn.{Drawn}
-use Rattle.drawing.specs.declared.line.Drawn.the-variants.{On, NotNumber, NoRoom, NoJoin}
+use Rattle.drawing.specs.declared.line.Drawn.the-variants.{On, Stopped}
 use Rattle.drawing.proofs.line.Drawn.{the-type}
 
 -- what a `match` found
 pub is-on : (d : Drawn) → OneOf (0 ∷ []) (tagOf the-type d) → isStopped d ≡ false
 unfolding isStopped
 is-on (On pen) k = refl
-is-on (NotNumber n) k = absurd (omega arith)
-is-on (NoRoom n) k = absurd (omega arith)
-is-on (NoJoin n) k = absurd (omega arith)
+is-on (Stopped why n) k = absurd (omega arith)
 
-pub other-than-on : (d : Drawn) → OneOf (1 ∷ 2 ∷ 3 ∷ []) (tagOf the-type d) → isStopped d ≡ true
+pub other-than-on : (d : Drawn) → OneOf (1 ∷ []) (tagOf the-type d) → isStopped d ≡ true
 unfolding isStopped
-other-than-on (On pen) k = absurd (none k)
-  where
-    none : (_≡_ {A = ℕ} 0 1) ⊎ ((_≡_ {A = ℕ} 0 2) ⊎ (_≡_ {A = ℕ} 0 3)) → ⊥
-    none k = ⊎-elim (λ h. omega arith) (λ h. ⊎-elim (λ g. omega arith) (λ g. omega arith) h) k
-other-than-on (NotNumber n) k = refl
-other-than-on (NoRoom n) k = refl
-other-than-on (NoJoin n) k = refl
+other-than-on (On pen) k = absurd (omega arith)
+other-than-on (Stopped why n) k = refl
 
 -- ---- the six words of a line, stored one after another
 next : (n k : ℕ) → n + suc k ≡ suc (n + k)
@@ -69,27 +63,27 @@ unfolding hasRoom
 room ws n h k = rw (lt-ltb n 4294967295 h, lt-ltb n (length ws / 6) k)
 
 module _ {path : ℕ} {ws : List ℕ} {ink : Drawn} {pen : Pen} {p q : Vec2} (on : ink ≡ On pen) where
-  pub nan-first : hasNan p ≡ true → Drew path ws ink (line p q ∷ []) ws (NotNumber (pen .count))
+  pub nan-first : hasNan p ≡ true → Drew path ws ink (line p q ∷ []) ws (Stopped NotNumber (pen .count))
   unfolding drawAll draw drawOn stored
-  nan-first h = record { is = rw (on, h) }
+  nan-first h = drew (rw (on, h))
 
-  pub nan-second : hasNan q ≡ true → Drew path ws ink (line p q ∷ []) ws (NotNumber (pen .count))
+  pub nan-second : hasNan q ≡ true → Drew path ws ink (line p q ∷ []) ws (Stopped NotNumber (pen .count))
   unfolding drawAll draw drawOn stored
-  nan-second h = record { is = rw (on, or-right (hasNan p) (hasNan q) h) }
+  nan-second h = drew (rw (on, or-right (hasNan p) (hasNan q) h))
 
-  pub full : hasNan p ≡ false → hasNan q ≡ false → hasRoom ws (pen .count) ≡ false → Drew path ws ink (line p q ∷ []) ws (NoRoom (pen .count))
+  pub full : hasNan p ≡ false → hasNan q ≡ false → hasRoom ws (pen .count) ≡ false → Drew path ws ink (line p q ∷ []) ws (Stopped NoRoom (pen .count))
   unfolding drawAll draw drawOn stored
-  full h i k = record { is = rw (on, h, i, k) }
+  full h i k = drew (rw (on, h, i, k))
 
   pub goes-on : {ws' : List ℕ} {b : IntBbox} → hasNan p ≡ false → hasNan q ≡ false → hasRoom ws (pen .count) ≡ true → ws' ≡ sets ws (pen .count * 6) (recordOf path p q) → b ≡ boxWith (boxWith (pen .bbox) p) q → Drew path ws ink (line p q ∷ []) ws' (On (record { count = pen .count + 1; bbox = b }))
   unfolding drawAll draw drawOn stored
-  goes-on h i k w e = record { is = rw (on, h, i, k, w, e) }
+  goes-on h i k w e = drew (rw (on, h, i, k, w, e))
 
 module _ (path : ℕ) (ws : List ℕ) {ink : Drawn} {pen : Pen} (on : ink ≡ On pen) where
-  pub count-stops : Drew path ws ink (noCount ∷ []) ws (NotNumber (pen .count))
+  pub count-stops : Drew path ws ink (noCount ∷ []) ws (Stopped NotNumber (pen .count))
   unfolding drawAll draw drawOn
-  count-stops = record { is = rw on }
+  count-stops = drew (rw on)
 
-  pub join-stops : Drew path ws ink (noJoin ∷ []) ws (NoJoin (pen .count))
+  pub join-stops : Drew path ws ink (noJoin ∷ []) ws (Stopped NoJoin (pen .count))
   unfolding drawAll draw drawOn
-  join-stops = record { is = rw on }
+  join-stops = drew (rw on)

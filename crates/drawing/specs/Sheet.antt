@@ -10,12 +10,15 @@ use lib.IntN.{ℤ, pos, negsuc}
 use lib.Signed.{ltZ}
 use lib.Ieee.{Float, binary32, toBits, toSigned}
 use Rattle.maths.specs.Numbers.{floorOf, ceilOf}
+use Rattle.refusals.specs.Refusals.{numberOf}
+use Rattle.refusals.specs.declared.Refusal.{Refusal}
+use Rattle.refusals.specs.declared.Refusal.the-variants.{NotNumber, NoRoom, NoJoin}
 use Rattle.spiral.specs.declared.util.Vec2.{Vec2}
 use Rattle.spiral.specs.Util.{hasNan, applyOf}
 use Rattle.drawing.specs.declared.line.IntBbox.{IntBbox}
 use Rattle.drawing.specs.declared.line.Pen.{Pen}
 use Rattle.drawing.specs.declared.line.Drawn.{Drawn}
-use Rattle.drawing.specs.declared.line.Drawn.the-variants.{On, NotNumber, NoRoom, NoJoin}
+use Rattle.drawing.specs.declared.line.Drawn.the-variants.{On, Stopped}
 
 -- ---- events
 
@@ -69,22 +72,20 @@ hasRoom ws n = ltb n 4294967295 && ltb n (length ws / 6)
 
 -- a line at the pen: whether it has a NaN, then whether it has room
 unfoldable pub stored : Bool → Bool → ℕ → List ℕ → Pen → Vec2 → Vec2 → Sheet
-stored true room path ws pen p q = sheet ws (NotNumber (pen .count))
-stored false false path ws pen p q = sheet ws (NoRoom (pen .count))
+stored true room path ws pen p q = sheet ws (Stopped NotNumber (pen .count))
+stored false false path ws pen p q = sheet ws (Stopped NoRoom (pen .count))
 stored false true path ws pen p q =
     sheet (sets ws (pen .count * 6) (recordOf path p q)) (On (record { count = pen .count + 1; bbox = boxWith (boxWith (pen .bbox) p) q }))
 
 unfoldable pub drawOn : ℕ → List ℕ → Pen → Event → Sheet
 drawOn path ws pen (line p q) = stored (hasNan p || hasNan q) (hasRoom ws (pen .count)) path ws pen p q
-drawOn path ws pen noCount = sheet ws (NotNumber (pen .count))
-drawOn path ws pen noJoin = sheet ws (NoJoin (pen .count))
+drawOn path ws pen noCount = sheet ws (Stopped NotNumber (pen .count))
+drawOn path ws pen noJoin = sheet ws (Stopped NoJoin (pen .count))
 
 -- one event; a stopped sheet takes no more
 unfoldable pub draw : ℕ → List ℕ → Drawn → Event → Sheet
 draw path ws (On pen) e = drawOn path ws pen e
-draw path ws (NotNumber n) e = sheet ws (NotNumber n)
-draw path ws (NoRoom n) e = sheet ws (NoRoom n)
-draw path ws (NoJoin n) e = sheet ws (NoJoin n)
+draw path ws (Stopped why n) e = sheet ws (Stopped why n)
 
 unfoldable pub drawAll : ℕ → Sheet → List Event → Sheet
 drawAll path s [] = s
@@ -95,16 +96,26 @@ drawAll path s (e ∷ es) = drawAll path (draw path (s .words) (s .drawn) e) es
 -- how many lines are stored
 abbrev pub countOf : Drawn → ℕ
 countOf (On pen) = pen .count
-countOf (NotNumber n) = n
-countOf (NoRoom n) = n
-countOf (NoJoin n) = n
+countOf (Stopped why n) = n
 
 unfoldable pub isStopped : Drawn → Bool
 isStopped (On pen) = false
-isStopped (NotNumber n) = true
-isStopped (NoRoom n) = true
-isStopped (NoJoin n) = true
+isStopped (Stopped why n) = true
+
+-- in numbers: 0 or the refusal's, the lines stored, the box of an answer that is no refusal, and the lent words
+pub record Told : Type 0 where
+  pub number : ℕ
+  pub count : ℕ
+  pub box : List IntBbox
+  pub words : List ℕ
+
+unfoldable pub told : List ℕ → Drawn → Told
+told ws (On pen) = record { number = 0; count = pen .count; box = pen .bbox ∷ []; words = ws }
+told ws (Stopped why n) = record { number = numberOf why; count = n; box = []; words = ws }
+
+abbrev pub toldOf : Sheet → Told
+toldOf s = told (s .words) (s .drawn)
 
 -- ---- the contract of every function that draws: on a path, with the words and the answer before, the events leave the words and the answer after
 pub record Drew (path : ℕ) (before : List ℕ) (ink : Drawn) (es : List Event) (after : List ℕ) (r : Drawn) : Type 0 where
-  pub is : sheet after r ≡ drawAll path (sheet before ink) es
+  pub is : told after r ≡ toldOf (drawAll path (sheet before ink) es)

@@ -8,13 +8,14 @@ use lib.Dec.{ltb}
 use borrow.Author.Tests.{ltb-true}
 use lib.ListN.{length, take, drop, length-append, take-append-drop}
 use lib.Seq.{sets, sets-eq, take-at, drop-at, drop-drop, length-take-le}
+use Rattle.refusals.specs.declared.Refusal.the-variants.{NotNumber, NoRoom, NoJoin}
 use Rattle.spiral.specs.declared.util.Vec2.{Vec2}
 use Rattle.spiral.specs.Util.{hasNan}
 use Rattle.drawing.specs.Sheet.{Event, line, noCount, noJoin, boxWith, Sheet, sheet, recordOf, hasRoom, stored, drawOn, draw, drawAll, countOf, isStopped}
 use Rattle.drawing.specs.SheetLaws.{absorbs}
 use Rattle.drawing.specs.declared.line.Pen.{Pen}
 use Rattle.drawing.specs.declared.line.Drawn.{Drawn}
-use Rattle.drawing.specs.declared.line.Drawn.the-variants.{On, NotNumber, NoRoom, NoJoin}
+use Rattle.drawing.specs.declared.line.Drawn.the-variants.{On, Stopped}
 
 -- the words of the first k events, where these are lines
 unfoldable pub recordsOf : ℕ → ℕ → List Event → List ℕ
@@ -96,16 +97,14 @@ stop-leaves path e es ws d h = subst (Leaves path (e ∷ es) ws (countOf d)) (ab
 
 line-leaves : (path : ℕ) (p q : Vec2) (es : List Event) (ws : List ℕ) (pen : Pen) (t u : Bool) → hasRoom ws (pen .count) ≡ u → ((ws : List ℕ) (d : Drawn) → Leaves path es ws (countOf d) (drawAll path (sheet ws d) es)) → Leaves path (line p q ∷ es) ws (pen .count) (drawAll path (stored t u path ws pen p q) es)
 unfolding stored isStopped
-line-leaves path p q es ws pen true u h rest = stop-leaves path (line p q) es ws (NotNumber (pen .count)) refl
-line-leaves path p q es ws pen false false h rest = stop-leaves path (line p q) es ws (NoRoom (pen .count)) refl
+line-leaves path p q es ws pen true u h rest = stop-leaves path (line p q) es ws (Stopped NotNumber (pen .count)) refl
+line-leaves path p q es ws pen false false h rest = stop-leaves path (line p q) es ws (Stopped NoRoom (pen .count)) refl
 line-leaves path p q es ws pen false true h rest = one-more path p q es ws (pen .count) (fits-in ws (pen .count) h) (rest (sets ws (pen .count * 6) (recordOf path p q)) (On (record { count = pen .count + 1; bbox = boxWith (boxWith (pen .bbox) p) q })))
 
 pub stands : (path : ℕ) (es : List Event) (ws : List ℕ) (d : Drawn) → Stands path es ws (countOf d) ((drawAll path (sheet ws d) es) .words) (countOf ((drawAll path (sheet ws d) es) .drawn))
 unfolding drawAll draw drawOn isStopped
 stands path [] ws d = none path [] ws (countOf d)
 stands path (line p q ∷ es) ws (On pen) = line-leaves path p q es ws pen (hasNan p || hasNan q) (hasRoom ws (pen .count)) refl (stands path es)
-stands path (noCount ∷ es) ws (On pen) = stop-leaves path noCount es ws (NotNumber (pen .count)) refl
-stands path (noJoin ∷ es) ws (On pen) = stop-leaves path noJoin es ws (NoJoin (pen .count)) refl
-stands path (e ∷ es) ws (NotNumber n) = stop-leaves path e es ws (NotNumber n) refl
-stands path (e ∷ es) ws (NoRoom n) = stop-leaves path e es ws (NoRoom n) refl
-stands path (e ∷ es) ws (NoJoin n) = stop-leaves path e es ws (NoJoin n) refl
+stands path (noCount ∷ es) ws (On pen) = stop-leaves path noCount es ws (Stopped NotNumber (pen .count)) refl
+stands path (noJoin ∷ es) ws (On pen) = stop-leaves path noJoin es ws (Stopped NoJoin (pen .count)) refl
+stands path (e ∷ es) ws (Stopped why n) = stop-leaves path e es ws (Stopped why n) refl

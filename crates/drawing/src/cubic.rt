@@ -10,9 +10,13 @@ pub struct CubicAt {
     pub q: Vec2,
 }
 
-fn cubic_point(p0: Vec2, p1: Vec2, p2: Vec2, p3: Vec2, t: f32) -> Vec2
-    ensures { λ r. ⌜ r ≡ cubicPoint p0 p1 p2 p3 t ⌝ }
+fn cubic_point(p: [Vec2; 4], t: f32) -> Vec2
+    ensures { λ r. ⌜ r ≡ cubicPoint p t ⌝ }
 {
+    let p0 = p[0];
+    let p1 = p[1];
+    let p2 = p[2];
+    let p3 = p[3];
     let m = 1.0 - t;
     let mm = m * m;
     let mt = m * t;
@@ -21,9 +25,13 @@ fn cubic_point(p0: Vec2, p1: Vec2, p2: Vec2, p3: Vec2, t: f32) -> Vec2
     p0.mul(mm * m).add(inner.mul(t))
 }
 
-fn cubic_deriv(p0: Vec2, p1: Vec2, p2: Vec2, p3: Vec2, t: f32) -> Vec2
-    ensures { λ r. ⌜ r ≡ cubicDeriv p0 p1 p2 p3 t ⌝ }
+fn cubic_deriv(p: [Vec2; 4], t: f32) -> Vec2
+    ensures { λ r. ⌜ r ≡ cubicDeriv p t ⌝ }
 {
+    let p0 = p[0];
+    let p1 = p[1];
+    let p2 = p[2];
+    let p3 = p[3];
     let m = 1.0 - t;
     let mm = m * m;
     let mt = m * t;
@@ -33,11 +41,11 @@ fn cubic_deriv(p0: Vec2, p1: Vec2, p2: Vec2, p3: Vec2, t: f32) -> Vec2
     first.add(second).add(p3.sub(p2).mul(tt))
 }
 
-pub fn eval_cubic_and_deriv(p0: Vec2, p1: Vec2, p2: Vec2, p3: Vec2, t: f32) -> CubicAt
-    ensures { λ r. ⌜ r ≡ cubicAt p0 p1 p2 p3 t ⌝ }
+pub fn eval_cubic_and_deriv(points: [Vec2; 4], t: f32) -> CubicAt
+    ensures { λ r. ⌜ r ≡ cubicAt points t ⌝ }
 {
-    let p = cubic_point(p0, p1, p2, p3, t);
-    let q = cubic_deriv(p0, p1, p2, p3, t);
+    let p = cubic_point(points, t);
+    let q = cubic_deriv(points, t);
     CubicAt { p, q }
 }
 
@@ -54,14 +62,22 @@ fn first_long(a: Vec2, b: Vec2, c: Vec2) -> Vec2
     c
 }
 
-pub fn cubic_start_tangent(p0: Vec2, p1: Vec2, p2: Vec2, p3: Vec2) -> Vec2
-    ensures { λ r. ⌜ r ≡ startTangent p0 p1 p2 p3 ⌝ }
+pub fn cubic_start_tangent(p: [Vec2; 4]) -> Vec2
+    ensures { λ r. ⌜ r ≡ startTangent p ⌝ }
 {
+    let p0 = p[0];
+    let p1 = p[1];
+    let p2 = p[2];
+    let p3 = p[3];
     first_long(p1.sub(p0), p2.sub(p0), p3.sub(p0))
 }
 
-pub fn cubic_end_tangent(p0: Vec2, p1: Vec2, p2: Vec2, p3: Vec2) -> Vec2
-    ensures { λ r. ⌜ r ≡ endTangent p0 p1 p2 p3 ⌝ }
+pub fn cubic_end_tangent(p: [Vec2; 4]) -> Vec2
+    ensures { λ r. ⌜ r ≡ endTangent p ⌝ }
 {
+    let p0 = p[0];
+    let p1 = p[1];
+    let p2 = p[2];
+    let p3 = p[3];
     first_long(p3.sub(p2), p3.sub(p1), p3.sub(p0))
 }

@@ -5,6 +5,7 @@ ghost use Prim.Native.Nat.{ℕ, _+_, _<_};
 ghost use lib.ListN.{length};
 ghost use lib.Seq.{sets};
 ghost use Rattle.drawing.specs.Sheet.{lowerOf, higherOf, emptyBox, boxWith, recordOf, line, noCount, noJoin, isStopped, lineThrough, Drew};
+use refusals::Refusal;
 use spiral::util::Vec2;
 use spiral::util::apply;
 
@@ -21,12 +22,10 @@ pub struct Pen {
     pub bbox: IntBbox,
 }
 
-// The answer so far. A stop holds how many whole lines are stored.
+// The answer so far. A stop says why, and how many whole lines are stored.
 pub enum Drawn {
     On(Pen),
-    NotNumber(u32),
-    NoRoom(u32),
-    NoJoin(u32),
+    Stopped(Refusal, u32),
 }
 
 pub fn lower(a: i32, b: i32) -> i32
@@ -90,7 +89,7 @@ pub fn write_line(lines: &mut [u32], ink: Drawn, path: u32, p0: Vec2, p1: Vec2) 
         return ink;
     };
     let count = pen.count;
-    let not_number = Drawn::NotNumber(count);
+    let not_number = Drawn::Stopped(Refusal::NotNumber, count);
     if p0.is_nan() {
         return not_number;
     }
@@ -99,7 +98,7 @@ pub fn write_line(lines: &mut [u32], ink: Drawn, path: u32, p0: Vec2, p1: Vec2) 
     }
     // One more would make the count 2^32.
     if count >= 4294967295 {
-        return Drawn::NoRoom(count);
+        return Drawn::Stopped(Refusal::NoRoom, count);
     }
     let at = count as usize;
     if at < lines.len() / 6 {
@@ -111,7 +110,7 @@ pub fn write_line(lines: &mut [u32], ink: Drawn, path: u32, p0: Vec2, p1: Vec2) 
             bbox,
         })
     } else {
-        Drawn::NoRoom(count)
+        Drawn::Stopped(Refusal::NoRoom, count)
     }
 }
 
@@ -151,7 +150,7 @@ pub fn no_count(ink: Drawn) -> Drawn
     let Drawn::On(pen) = ink else {
         return ink;
     };
-    Drawn::NotNumber(pen.count)
+    Drawn::Stopped(Refusal::NotNumber, pen.count)
 }
 
 // Where the style names no join.
@@ -161,7 +160,7 @@ pub fn no_join(ink: Drawn) -> Drawn
     let Drawn::On(pen) = ink else {
         return ink;
     };
-    Drawn::NoJoin(pen.count)
+    Drawn::Stopped(Refusal::NoJoin, pen.count)
 }
 
 // For loops, which end at a stop.

@@ -11,14 +11,14 @@ use Rattle.numbers.specs.Select.{before, maxOf, clampOf}
 use Rattle.numbers.specs.Whole.{wholeOf, floorOf, ceilOf}
 use Rattle.roots.specs.Root.{sqrtOf, twoThirdsOf, hypotOf}
 use Rattle.trig.specs.Trig as trig
+use Rattle.refusals.specs.Refusals.{numberOf, Read, found, refused}
 use Rattle.spiral.specs.Util.{newOf, addOf, subOf, mulOf, dotOf, lengthOf, lengthSquaredOf, mixOf, angleOf, hasNan, eqOf, identityOf, applyOf}
 use Rattle.spiral.specs.Euler.{fittedError, errorRatio, longChord, fromPointsDerivs, fromAngles}
 use Rattle.spiral.specs.declared.util.Vec2.{Vec2}
 use Rattle.scene.specs.Words.{wordAt}
 use Rattle.scene.specs.Tags.{tagSums, plus, byteAt, sumsBelow, wordSums, tagData, prefixAt, withPrefix, tagIn, tagOf, sumsBefore, prefixes, filled, scanOf}
 use Rattle.scene.specs.Reading.{i16Of, i16Point, pointWords, pointAt, lineCubic, pointCount, raised, cubicOf, reaches, segmentOf, floatsAt, transformOf, flagsOf}
-use Rattle.scene.specs.declared.tags.TagRead.{TagRead}
-use Rattle.scene.specs.declared.tags.TagRead.the-variants as tag
+use Rattle.scene.specs.declared.tags.PathTagData.{PathTagData}
 use Rattle.drawing.specs.Sheet.{lowerOf, higherOf, emptyBox, boxWith, hasRoom, stored, drawOn, draw, drawAll}
 use Rattle.drawing.specs.Cubic.{cubicPoint, cubicDeriv, cubicAt}
 use Rattle.drawing.specs.declared.line.IntBbox.{IntBbox}
@@ -27,7 +27,7 @@ use Rattle.curve.specs.Curve.{lineOf, linesOf, rangeOf, rangeEnd, tipOf, isNear
 use Rattle.segment.specs.Segment.{fillEvents, shapeEvents}
 use Rattle.flatten.specs.Boxes.{freshBox, hasExtent, markedOf, mergedOf, changedOf, changedAt}
 use Rattle.flatten.specs.Tag.{_>>=_, boxed, headAt, shapeAt, eventsBy, eventsAt}
-use Rattle.flatten.specs.Step.{endOf, drawnOf, changeOf, turnOf, refusedAt, stepFrom, stepOf}
+use Rattle.flatten.specs.Step.{drawnOf, changeOf, turnOf, refusedAt, stepFrom, stepOf}
 use Rattle.flatten.specs.Call.{firstTurn, startOf, taken, onward, after, answerOf, toldOf, Outcome, callOf}
 use Rattle.flatten.specs.declared.boxes.PathBox.{PathBox}
 
@@ -53,9 +53,7 @@ boxFields b = int (b .x0) ∷ int (b .y0) ∷ int (b .x1) ∷ int (b .y1) ∷ na
 
 -- the refusal's number or 0, the tag in turn, and the count of lines
 abbrev told : Outcome → List Value
-told o =
-    let t = toldOf (o .answer) in
-    nat (t .number) ∷ nat (t .tag) ∷ nat (t .count) ∷ []
+told o = nat (o .answer .number) ∷ nat (o .answer .tag) ∷ nat (o .answer .count) ∷ []
 
 -- ---- the triangle, by its first tag: a transform, then a style, two lines, a line that ends the subpath, and a path
 
@@ -69,10 +67,9 @@ abbrev scanned : ℕ → List ℕ
 scanned first = scanOf (sceneFrom first) 0 (replicate 4096 0) .words
 
 -- a tag's data offset
-abbrev offset : TagRead → List Value
-offset (tag.Tag d) = nat (d .monoid .«pathseg_offset») ∷ []
-offset tag.NoWord = []
-offset tag.NoPrefix = []
+abbrev offset : Read PathTagData → List Value
+offset (found d) = nat (d .monoid .«pathseg_offset») ∷ []
+offset (refused why) = []
 
 -- its call, with boxes and with room for so many lines
 abbrev triangle : ℕ → List PathBox → ℕ → Outcome
@@ -122,5 +119,5 @@ table =
     ∷ []
 
 pub as-measured : map (λ r. r .given) table ≡ map (λ r. r .measured) table
-unfolding table flatten ofBits ofInt toBits toSigned toUnsigned round neg add sub mul div lt le eq isNan signOf signed absOf halfUnits halfFields halfOf before maxOf clampOf wholeOf floorOf ceilOf sqrtOf twoThirdsOf hypotOf trig.boundedOf trig.sinNear trig.cosNear trig.reducedOf trig.curveOf trig.waveOf trig.sinOf trig.cosOf trig.angleOf trig.atan2Of addOf subOf mulOf dotOf lengthOf lengthSquaredOf mixOf angleOf hasNan eqOf identityOf applyOf fittedError errorRatio longChord fromPointsDerivs fromAngles wordAt tagSums plus byteAt sumsBelow wordSums tagData prefixAt withPrefix tagIn tagOf sumsBefore prefixes filled scanOf i16Of i16Point pointWords pointAt lineCubic pointCount raised cubicOf reaches segmentOf floatsAt transformOf flagsOf lowerOf higherOf emptyBox boxWith hasRoom stored drawOn draw drawAll cubicPoint cubicDeriv cubicAt isShort firstTip tipAt paramsOf multiplierOf integrandOf robustOf nFracOf fitOf lineOf linesOf rangeOf rangeEnd tipOf isNear accepted walk isPoint sideEvents deviceSide eulerEvents fillEvents shapeEvents freshBox hasExtent markedOf mergedOf changedOf changedAt _>>=_ boxed headAt shapeAt eventsBy eventsAt endOf drawnOf changeOf turnOf refusedAt stepFrom stepOf firstTurn startOf taken onward after answerOf toldOf callOf
+unfolding table flatten ofBits ofInt toBits toSigned toUnsigned round neg add sub mul div lt le eq isNan signOf signed absOf halfUnits halfFields halfOf before maxOf clampOf wholeOf floorOf ceilOf sqrtOf twoThirdsOf hypotOf trig.boundedOf trig.sinNear trig.cosNear trig.reducedOf trig.curveOf trig.waveOf trig.sinOf trig.cosOf trig.angleOf trig.atan2Of addOf subOf mulOf dotOf lengthOf lengthSquaredOf mixOf angleOf hasNan eqOf identityOf applyOf fittedError errorRatio longChord fromPointsDerivs fromAngles wordAt tagSums plus byteAt sumsBelow wordSums tagData prefixAt withPrefix tagIn tagOf sumsBefore prefixes filled scanOf i16Of i16Point pointWords pointAt lineCubic pointCount raised cubicOf reaches segmentOf floatsAt transformOf flagsOf lowerOf higherOf emptyBox boxWith hasRoom stored drawOn draw drawAll cubicPoint cubicDeriv cubicAt isShort firstTip tipAt paramsOf multiplierOf integrandOf robustOf nFracOf fitOf lineOf linesOf rangeOf rangeEnd tipOf isNear accepted walk isPoint sideEvents deviceSide eulerEvents fillEvents shapeEvents freshBox hasExtent markedOf mergedOf changedOf changedAt _>>=_ boxed headAt shapeAt eventsBy eventsAt drawnOf changeOf turnOf refusedAt stepFrom stepOf firstTurn startOf taken onward after answerOf numberOf toldOf callOf
 as-measured = refl

@@ -3,7 +3,7 @@ use Prim.Native.Nat.{ℕ}
 use mathlib.Core.List.{List}
 use Rattle.flatten.specs.declared.boxes.PathBox.{PathBox}
 use Rattle.flatten.specs.declared.call.Layout.{Layout}
-use Rattle.flatten.specs.Call.{Outcome, toldOf, reportOf}
+use Rattle.flatten.specs.Call.{Outcome, reportOf}
 
 abbrev pub layoutOf : ℕ → ℕ → ℕ → ℕ → ℕ → Layout
 layoutOf n tags points transforms styles =
@@ -20,4 +20,4 @@ abbrev pub reported : ℕ → List PathBox → List ℕ → List ℕ → Reporte
 reported r ps ws os = record { number = r; boxes = ps; lines = ws; out = os }
 
 unfoldable pub reportedOf : Outcome → List ℕ → Reported
-reportedOf o os = reported (toldOf (o .answer) .number) (o .boxes) (o .lines) (reportOf (toldOf (o .answer)) os)
+reportedOf o os = reported (o .answer .number) (o .boxes) (o .lines) (reportOf (o .answer) os)

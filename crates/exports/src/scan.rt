@@ -2,6 +2,7 @@
 ghost use mathlib.Core.Path.{_≡_};
 ghost use Rattle.scene.specs.Tags.{scanOf};
 ghost use Rattle.exports.specs.Scan.{firstOf, scanned, scannedOf};
+use refusals::Refusal;
 use scene::tags::Scanned;
 use scene::tags::scan;
 
@@ -31,7 +32,8 @@ pub extern "C" fn hinth_scan(
         }
         Scanned::PastEnd => {
             put_first(out, 0);
-            1
+            let why = Refusal::BadBase;
+            why.number()
         }
     }
 }

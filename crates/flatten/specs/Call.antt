@@ -4,6 +4,8 @@ use mathlib.Core.Bool.{Bool, true, false, _||_, cond}
 use mathlib.Core.List.{List, [], _∷_, _++_}
 use lib.Dec.{ltb}
 use lib.ListN.{length, take, drop}
+use Rattle.refusals.specs.Refusals.{numberOf}
+use Rattle.refusals.specs.declared.Refusal.the-variants.{BadBase}
 use Rattle.drawing.specs.Sheet.{emptyBox}
 use Rattle.flatten.specs.Boxes.{changedAt}
 use Rattle.flatten.specs.Step.{Stepped, stepOf}
@@ -14,7 +16,7 @@ use Rattle.flatten.specs.declared.call.Stop.{Stop}
 use Rattle.flatten.specs.declared.call.Stop.the-variants as stop
 use Rattle.flatten.specs.declared.call.Answer.{Answer}
 use Rattle.flatten.specs.declared.call.Told.{Told}
-use Rattle.flatten.specs.declared.call.Answer.the-variants.{Lines, BadBase, Outside, NoPrefix, NoBox, NotNumber, NoRoom, NoJoin}
+use Rattle.flatten.specs.declared.call.Answer.the-variants.{Lines, Refused}
 
 -- ---- where the call starts
 
@@ -24,7 +26,7 @@ firstTurn left s =
 
 -- whether a base lies past the scene's end; else 256 tags for each workgroup are left
 abbrev pub startAt : Bool → Layout → Turn
-startAt true layout = firstTurn 0 stop.BadBase
+startAt true layout = firstTurn 0 (stop.Refused BadBase)
 startAt false layout = firstTurn (layout .«n_wg» * 256) stop.Going
 
 unfoldable pub startOf : Layout → ℕ → Turn
@@ -57,13 +59,7 @@ after (suc n) layout scene prefixes s = next layout scene prefixes (after n layo
 
 abbrev pub answerFor : Stop → ℕ → ℕ → Answer
 answerFor stop.Going tag count = Lines count
-answerFor stop.BadBase tag count = BadBase
-answerFor stop.Outside tag count = Outside tag count
-answerFor stop.NoPrefix tag count = NoPrefix tag count
-answerFor stop.NoBox tag count = NoBox tag count
-answerFor stop.NotNumber tag count = NotNumber tag count
-answerFor stop.NoRoom tag count = NoRoom tag count
-answerFor stop.NoJoin tag count = NoJoin tag count
+answerFor (stop.Refused why) tag count = Refused why tag count
 
 unfoldable pub answerOf : Turn → Answer
 answerOf t = answerFor (t .stop) (t .tag) (t .count)
@@ -74,13 +70,7 @@ said number tag count = record { number = number; tag = tag; count = count }
 
 unfoldable pub toldOf : Answer → Told
 toldOf (Lines count) = said 0 0 count
-toldOf BadBase = said 1 0 0
-toldOf (Outside tag count) = said 2 tag count
-toldOf (NoPrefix tag count) = said 3 tag count
-toldOf (NoBox tag count) = said 4 tag count
-toldOf (NotNumber tag count) = said 5 tag count
-toldOf (NoRoom tag count) = said 6 tag count
-toldOf (NoJoin tag count) = said 7 tag count
+toldOf (Refused why tag count) = said (numberOf why) tag count
 
 -- two words take the tag and the count, where there are two
 unfoldable pub reportOf : Told → List ℕ → List ℕ
@@ -91,15 +81,15 @@ reportOf told (a ∷ b ∷ ws) = told .tag ∷ told .count ∷ ws
 -- ---- the call
 
 pub record Outcome : Type 0 where
-  pub answer : Answer
+  pub answer : Told
   pub boxes : List PathBox
   pub lines : List ℕ
 
-abbrev pub outcome : Answer → List PathBox → List ℕ → Outcome
-outcome r ps ws = record { answer = r; boxes = ps; lines = ws }
+abbrev pub outcome : Told → List PathBox → List ℕ → Outcome
+outcome told ps ws = record { answer = told; boxes = ps; lines = ws }
 
 abbrev pub outcomeOf : State → Outcome
-outcomeOf s = outcome (answerOf (s .turn)) (s .boxes) (s .lines)
+outcomeOf s = outcome (toldOf (answerOf (s .turn))) (s .boxes) (s .lines)
 
 unfoldable pub callOf : Layout → List ℕ → List ℕ → List PathBox → List ℕ → Outcome
 callOf layout scene prefixes ps ws =

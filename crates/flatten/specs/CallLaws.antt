@@ -6,13 +6,14 @@ use mathlib.Core.List.{List}
 use native.Mathlib.Omega.{arith}
 use lib.Dec.{ltb}
 use lib.ListN.{length}
+use Rattle.refusals.specs.Refusals.{numberOf}
+use Rattle.refusals.specs.declared.Refusal.the-variants.{BadBase}
 use Rattle.flatten.specs.Step.{stepOf}
-use Rattle.flatten.specs.Call.{firstTurn, startAt, startOf, State, taken, onward, next, after, answerOf, outcome, outcomeOf, callOf}
+use Rattle.flatten.specs.Call.{firstTurn, startAt, startOf, State, taken, onward, next, after, answerOf, said, toldOf, outcome, outcomeOf, callOf}
 use Rattle.flatten.specs.declared.boxes.PathBox.{PathBox}
 use Rattle.flatten.specs.declared.call.Layout.{Layout}
 use Rattle.flatten.specs.declared.call.Turn.{Turn}
 use Rattle.flatten.specs.declared.call.Stop.the-variants as stop
-use Rattle.flatten.specs.declared.call.Answer.the-variants.{BadBase}
 
 module _ (layout : Layout) (scene prefixes : List ℕ) where
   abbrev tag : State → State
@@ -54,11 +55,11 @@ module _ (layout : Layout) (scene prefixes : List ℕ) where
 
 -- a base past the scene's end is refused, and nothing is written
 pub bad-base : (layout : Layout) (scene prefixes : List ℕ) (ps : List PathBox) (ws : List ℕ) → ltb (length scene) (layout .«tag_base») || ltb (length scene) (layout .«data_base») ≡ true
-    → callOf layout scene prefixes ps ws ≡ outcome BadBase ps ws
-unfolding startOf firstTurn answerOf callOf after
+    → callOf layout scene prefixes ps ws ≡ outcome (said 1 0 0) ps ws
+unfolding startOf firstTurn answerOf toldOf numberOf callOf after
 bad-base layout scene prefixes ps ws past =
     let t = startOf layout (length scene) in
-    let none : t ≡ firstTurn 0 stop.BadBase = ap (λ (b : Bool). startAt b layout) past in
+    let none : t ≡ firstTurn 0 (stop.Refused BadBase) = ap (λ (b : Bool). startAt b layout) past in
     let m = layout .«n_wg» * 256 in
     let h : m + 0 ≡ m = omega arith in
     ap (λ (k : ℕ). outcomeOf (after k layout scene prefixes (record { turn = t; boxes = ps; lines = ws }))) (sym h)

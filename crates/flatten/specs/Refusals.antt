@@ -1,41 +1,39 @@
--- Before it draws, a tag is refused by number 2, 3 or 4 alone; so the count that an answer tells is that of the records stored. Assumes nothing.
+-- Before it draws, a tag is refused by number 2, 3 or 4 alone, and drawing by none of these: so number 1 is given only where a base lies past the scene's end. The count that an answer tells is that of the records stored. Assumes nothing.
 use Prim.Native.Nat.{ℕ, _+_, _*_, _%_, _^_}
 use mathlib.Core.Path.{_≡_, refl, sym, subst}
 use mathlib.Core.Bool.{Bool, true, false, _&&_, _||_, cond}
-use mathlib.Core.List.{List, []}
+use mathlib.Core.List.{List, [], _∷_}
+use native.Mathlib.Omega.{arith}
 use lib.Dec.{leb, ltb, eqb}
 use lib.ListN.{length}
 use lib.Ieee.{Float, binary32, ofBits}
-use Rattle.drawing.specs.Sheet.{Event, sheet, emptyBox, drawAll}
+use Rattle.refusals.specs.Refusals.{numberOf, Read, found, refused}
+use Rattle.refusals.specs.declared.Refusal.the-variants.{Outside, NoPrefix, NoBox}
+use Rattle.spiral.specs.declared.util.Vec2.{Vec2}
+use Rattle.spiral.specs.Util.{hasNan}
+use Rattle.drawing.specs.Sheet.{Event, line, noCount, noJoin, Sheet, sheet, emptyBox, hasRoom, stored, drawOn, draw, drawAll}
+use Rattle.drawing.specs.declared.line.Pen.{Pen}
 use Rattle.drawing.specs.declared.line.Drawn.{Drawn}
-use Rattle.drawing.specs.declared.line.Drawn.the-variants as drawn
-use Rattle.scene.specs.Tags.{bit, tagOf}
-use Rattle.scene.specs.Reading.{segmentOf, transformOf, flagsOf, widthOf}
-use Rattle.scene.specs.declared.words.Word.{Word}
-use Rattle.scene.specs.declared.words.Word.the-variants as word
+use Rattle.drawing.specs.declared.line.Drawn.the-variants.{On, Stopped}
+use Rattle.scene.specs.Early.{Early, read, outside, no-prefix, no-box, either, tag-early, flags-early, width-early}
+use Rattle.scene.specs.Tags.{bit}
+use Rattle.scene.specs.Reading.{segmentOf, transformOf}
 use Rattle.scene.specs.declared.tags.PathTagData.{PathTagData}
-use Rattle.scene.specs.declared.tags.TagRead.{TagRead}
-use Rattle.scene.specs.declared.tags.TagRead.the-variants as tag
 use Rattle.segment.specs.Segment.{neighborOf, shapeEvents}
 use Rattle.segment.specs.declared.Shape.the-variants.{Nothing, Fill, StartCap, Stroke}
-use Rattle.flatten.specs.Tag.{Read, found, refused, _>>=_, inside, wordRead, tagRead, tagAt, pointsAt, transformAt, isPath, boxed, headAt, neighborAt, strokeBy, strokeAt, isStroke, shapeAt, eventsBy, eventsAt}
-use Rattle.flatten.specs.Step.{endOf, drawnOf, turnOf, refusedAt, behind, stepFrom, stepOf}
-use Rattle.flatten.specs.Call.{firstTurn, startAt, startOf, State, taken, after, answerOf, toldOf, callOf}
+use Rattle.flatten.specs.Tag.{_>>=_, inside, tagAt, pointsAt, transformAt, isPath, boxed, headAt, neighborAt, strokeBy, strokeAt, isStroke, shapeAt, eventsBy, eventsAt}
+use Rattle.flatten.specs.Step.{drawnOf, turnOf, refusedAt, behind, stepFrom, stepOf}
+use Rattle.flatten.specs.Call.{firstTurn, startAt, startOf, State, taken, after, answerFor, answerOf, toldOf, callOf}
 use Rattle.flatten.specs.CallLaws.{carried}
 use Rattle.flatten.specs.Stands.{none, Stored, call-stands}
 use Rattle.flatten.specs.declared.boxes.PathBox.{PathBox}
 use Rattle.flatten.specs.declared.call.Layout.{Layout}
 use Rattle.flatten.specs.declared.call.Turn.{Turn}
-use Rattle.flatten.specs.declared.call.Stop.the-variants.{Outside, NoPrefix, NoBox}
+use Rattle.flatten.specs.declared.call.Stop.{Stop}
+use Rattle.flatten.specs.declared.call.Stop.the-variants as stop
 use Rattle.flatten.specs.declared.tag.Head.{Head}
 
 -- ---- what is read
-
-pub data Early {A : Type 0} : Read A → Type 0 where
-  read : (a : A) → Early (found a)
-  outside : Early (refused Outside)
-  no-prefix : Early (refused NoPrefix)
-  no-box : Early (refused NoBox)
 
 bound : {A B : Type 0} {r : Read A} {f : A → Read B} → Early r → ((a : A) → Early (f a)) → Early (r >>= f)
 unfolding _>>=_
@@ -48,23 +46,7 @@ insides : {A : Type 0} (b : Bool) (a : A) → Early (inside b a)
 insides true a = read a
 insides false a = outside
 
-words : (w : Word) → Early (wordRead w)
-words (word.At w) = read w
-words word.Outside = outside
-
-tags : (t : TagRead) → Early (tagRead t)
-tags (tag.Tag d) = read d
-tags tag.NoWord = outside
-tags tag.NoPrefix = no-prefix
-
-boxes : (b : Bool) (h : Head) → Early (cond b (refused NoBox) (found h))
-boxes true h = no-box
-boxes false h = read h
-
 module _ (layout : Layout) (scene prefixes : List ℕ) where
-  tag-early : (ix : ℕ) → Early (tagAt layout scene prefixes ix)
-  tag-early ix = tags (tagOf scene (layout .«tag_base») prefixes ix)
-
   points-early : (stroke : Bool) (t : PathTagData) → Early (pointsAt layout scene stroke t)
   points-early stroke t =
       let r = segmentOf (t .«tag_byte») stroke (t .monoid .«pathseg_offset») scene (layout .«data_base») in
@@ -77,16 +59,16 @@ module _ (layout : Layout) (scene prefixes : List ℕ) where
 
   box-early : (n : ℕ) (h : Head) → Early (boxed n h)
   unfolding boxed
-  box-early n h = boxes (isPath h && leb n (h .tag .monoid .«path_ix»)) h
+  box-early n h = either (isPath h && leb n (h .tag .monoid .«path_ix»)) no-box (read h)
 
   pub head-early : (n ix : ℕ) → Early (headAt layout scene prefixes n ix)
   unfolding headAt
   head-early n ix =
-      bound (tag-early ix) (λ t. bound (words (flagsOf scene (layout .«style_base») (t .monoid .«style_ix»))) (λ flags. box-early n (record { tag = t; flags = flags })))
+      bound (tag-early scene (layout .«tag_base») prefixes ix) (λ t. bound (flags-early scene (layout .«style_base») (t .monoid .«style_ix»)) (λ flags. box-early n (record { tag = t; flags = flags })))
 
   neighbor-early : (ix : ℕ) → Early (neighborAt layout scene prefixes ix)
   unfolding neighborAt
-  neighbor-early ix = bound (tag-early ix) (λ t. bound (points-early true t) (λ ps. read (neighborOf (t .«tag_byte») ps)))
+  neighbor-early ix = bound (tag-early scene (layout .«tag_base») prefixes ix) (λ t. bound (points-early true t) (λ ps. read (neighborOf (t .«tag_byte») ps)))
 
   stroke-early : (end closed : Bool) (ix : ℕ) (width : Float) → Early (strokeBy end closed layout scene prefixes ix width)
   unfolding strokeBy
@@ -98,7 +80,7 @@ module _ (layout : Layout) (scene prefixes : List ℕ) where
   unfolding shapeAt strokeAt
   shape-early true ix h =
       let byte = h .tag .«tag_byte» in
-      bound (words (widthOf scene (layout .«style_base») (h .tag .monoid .«style_ix»))) (λ w. stroke-early (eqb (bit byte 0x04) 1) (eqb (byte % 4) 1) ix (ofBits binary32 w))
+      bound (width-early scene (layout .«style_base») (h .tag .monoid .«style_ix»)) (λ w. stroke-early (eqb (bit byte 0x04) 1) (eqb (byte % 4) 1) ix (ofBits binary32 w))
   shape-early false ix h = read Fill
 
   events-by-early : (b : Bool) (ix : ℕ) (h : Head) → Early (eventsBy b layout scene prefixes ix h)
@@ -111,40 +93,84 @@ module _ (layout : Layout) (scene prefixes : List ℕ) where
   unfolding eventsAt
   events-early ix h = events-by-early (eqb (h .tag .«tag_byte» % 4) 0) ix h
 
+-- ---- number 1
+
+-- what is drawn is not refused by 1
+NotBase : Drawn → Type 0
+NotBase (On pen) = Unit {0}
+NotBase (Stopped why n) = numberOf why ≡ 1 → ⊥
+
+stored-not-base : (t u : Bool) (path : ℕ) (ws : List ℕ) (pen : Pen) (p q : Vec2) → NotBase (stored t u path ws pen p q .drawn)
+unfolding NotBase stored numberOf
+stored-not-base true u path ws pen p q = λ e. omega arith
+stored-not-base false false path ws pen p q = λ e. omega arith
+stored-not-base false true path ws pen p q = tt
+
+draw-not-base : (path : ℕ) (ws : List ℕ) (d : Drawn) (e : Event) → NotBase d → NotBase (draw path ws d e .drawn)
+unfolding NotBase draw drawOn numberOf
+draw-not-base path ws (On pen) (line p q) h = stored-not-base (hasNan p || hasNan q) (hasRoom ws (pen .count)) path ws pen p q
+draw-not-base path ws (On pen) noCount h = λ e. omega arith
+draw-not-base path ws (On pen) noJoin h = λ e. omega arith
+draw-not-base path ws (Stopped why n) e h = h
+
+all-not-base : (path : ℕ) (s : Sheet) (es : List Event) → NotBase (s .drawn) → NotBase (drawAll path s es .drawn)
+unfolding drawAll
+all-not-base path s [] h = h
+all-not-base path s (e ∷ es) h = all-not-base path (draw path (s .words) (s .drawn) e) es (draw-not-base path (s .words) (s .drawn) e h)
+
+abbrev NotOne : Turn → Type 0
+NotOne t = toldOf (answerOf t) .number ≡ 1 → ⊥
+
+turn-not-one : (t : Turn) (h : Head) (d : Drawn) → NotBase d → NotOne (turnOf t h d)
+unfolding NotBase turnOf answerOf toldOf
+turn-not-one t h (On pen) k = λ e. omega arith
+turn-not-one t h (Stopped why n) k = k
+
+drawing-not-one : (t : Turn) (h : Head) (ws : List ℕ) (path : ℕ) {r : Read (List Event)} → Early r → NotOne (behind t h (drawnOf path (t .count) ws r) .turn)
+unfolding NotBase drawnOf turnOf answerOf toldOf numberOf
+drawing-not-one t h ws path (read es) =
+    let s = sheet ws (On (record { count = t .count; bbox = emptyBox })) in
+    turn-not-one t h (drawAll path s es .drawn) (all-not-base path s es tt)
+drawing-not-one t h ws path outside = λ e. omega arith
+drawing-not-one t h ws path no-prefix = λ e. omega arith
+drawing-not-one t h ws path no-box = λ e. omega arith
+
+head-not-one : {r : Read Head} → Early r → (layout : Layout) (scene prefixes ws : List ℕ) (t : Turn) → NotOne (stepFrom r layout scene prefixes ws t .turn)
+unfolding stepFrom refusedAt answerOf toldOf numberOf
+head-not-one (read h) layout scene prefixes ws t = drawing-not-one t h ws (h .tag .monoid .«path_ix») (events-early layout scene prefixes (t .tag) h)
+head-not-one outside layout scene prefixes ws t = λ e. omega arith
+head-not-one no-prefix layout scene prefixes ws t = λ e. omega arith
+head-not-one no-box layout scene prefixes ws t = λ e. omega arith
+
+step-not-one : (layout : Layout) (scene prefixes ws : List ℕ) (n : ℕ) (t : Turn) → NotOne (stepOf layout scene prefixes ws n t .turn)
+unfolding stepOf
+step-not-one layout scene prefixes ws n t = head-not-one (head-early layout scene prefixes n (t .tag)) layout scene prefixes ws t
+
+start-not-one : (layout : Layout) → NotOne (startAt false layout)
+unfolding firstTurn answerOf toldOf
+start-not-one layout = λ e. omega arith
+
+from-base : (b : Bool) (layout : Layout) (scene prefixes : List ℕ) (ps : List PathBox) (ws : List ℕ) (m : ℕ)
+    → toldOf (answerOf (after m layout scene prefixes (record { turn = startAt b layout; boxes = ps; lines = ws }) .turn)) .number ≡ 1 → b ≡ true
+unfolding taken
+from-base true layout scene prefixes ps ws m e = refl
+from-base false layout scene prefixes ps ws m e =
+    absurd (carried layout scene prefixes (λ (u : State). NotOne (u .turn)) (λ u l k. step-not-one layout scene prefixes (u .lines) (length (u .boxes)) (u .turn))
+    m (record { turn = startAt false layout; boxes = ps; lines = ws }) (start-not-one layout) e)
+
+-- refusal 1 is given only where a base lies past the scene's end; that it is given there is `bad-base`
+pub one-is-bad-base : (layout : Layout) (scene prefixes : List ℕ) (ps : List PathBox) (ws : List ℕ)
+    → callOf layout scene prefixes ps ws .answer .number ≡ 1 → ltb (length scene) (layout .«tag_base») || ltb (length scene) (layout .«data_base») ≡ true
+unfolding callOf startOf
+one-is-bad-base layout scene prefixes ps ws e =
+    from-base (ltb (length scene) (layout .«tag_base») || ltb (length scene) (layout .«data_base»)) layout scene prefixes ps ws (layout .«n_wg» * 256) e
+
 -- ---- what the answer tells
 
-abbrev Tells : Turn → Type 0
-Tells t = toldOf (answerOf t) .count ≡ t .count
-
-end-tells : (t : Turn) (h : Head) (d : Drawn) → Tells (turnOf t h (endOf d))
-unfolding turnOf endOf answerOf toldOf
-end-tells t h (drawn.On pen) = refl
-end-tells t h (drawn.NotNumber n) = refl
-end-tells t h (drawn.NoRoom n) = refl
-end-tells t h (drawn.NoJoin n) = refl
-
-drawing-tells : (t : Turn) (h : Head) (ws : List ℕ) (path : ℕ) {r : Read (List Event)} → Early r → Tells (behind t h (drawnOf path (t .count) ws r) .turn)
-unfolding drawnOf turnOf answerOf toldOf
-drawing-tells t h ws path (read es) = end-tells t h (drawAll path (sheet ws (drawn.On (record { count = t .count; bbox = emptyBox }))) es .drawn)
-drawing-tells t h ws path outside = refl
-drawing-tells t h ws path no-prefix = refl
-drawing-tells t h ws path no-box = refl
-
-head-tells : {r : Read Head} → Early r → (layout : Layout) (scene prefixes ws : List ℕ) (t : Turn) → Tells (stepFrom r layout scene prefixes ws t .turn)
-unfolding stepFrom refusedAt answerOf toldOf
-head-tells (read h) layout scene prefixes ws t = drawing-tells t h ws (h .tag .monoid .«path_ix») (events-early layout scene prefixes (t .tag) h)
-head-tells outside layout scene prefixes ws t = refl
-head-tells no-prefix layout scene prefixes ws t = refl
-head-tells no-box layout scene prefixes ws t = refl
-
-step-tells : (layout : Layout) (scene prefixes ws : List ℕ) (n : ℕ) (t : Turn) → Tells (stepOf layout scene prefixes ws n t .turn)
-unfolding stepOf
-step-tells layout scene prefixes ws n t = head-tells (head-early layout scene prefixes n (t .tag)) layout scene prefixes ws t
-
-start-tells : (b : Bool) (layout : Layout) → Tells (startAt b layout)
-unfolding firstTurn answerOf toldOf
-start-tells true layout = refl
-start-tells false layout = refl
+tells : (s : Stop) (tag count : ℕ) → toldOf (answerFor s tag count) .count ≡ count
+unfolding toldOf
+tells stop.Going tag count = refl
+tells (stop.Refused why) tag count = refl
 
 start-count : (b : Bool) (layout : Layout) → startAt b layout .count ≡ 0
 unfolding firstTurn
@@ -153,13 +179,12 @@ start-count false layout = refl
 
 -- the lines are as many whole records as the answer tells, and behind them the words at entry
 pub call-stored : (layout : Layout) (scene prefixes : List ℕ) (ps : List PathBox) (ws : List ℕ)
-    → Stored ws [] (toldOf (callOf layout scene prefixes ps ws .answer) .count) (callOf layout scene prefixes ps ws .lines)
-unfolding callOf startOf taken
+    → Stored ws [] (callOf layout scene prefixes ps ws .answer .count) (callOf layout scene prefixes ps ws .lines)
+unfolding callOf startOf answerOf
 call-stored layout scene prefixes ps ws =
     let b = ltb (length scene) (layout .«tag_base») || ltb (length scene) (layout .«data_base») in
     let s : State = record { turn = startAt b layout; boxes = ps; lines = ws } in
     let m = layout .«n_wg» * 256 in
-    let told : Tells (after m layout scene prefixes s .turn) =
-    carried layout scene prefixes (λ (u : State). Tells (u .turn)) (λ u e k. step-tells layout scene prefixes (u .lines) (length (u .boxes)) (u .turn)) m s (start-tells b layout) in
+    let t = after m layout scene prefixes s .turn in
     let start : Stored ws [] (s .turn .count) ws = subst (λ (n : ℕ). Stored ws [] n ws) (sym (start-count b layout)) (record { all = []; rest = []; before = refl; lines = none; words = refl }) in
-    subst (λ (n : ℕ). Stored ws [] n (after m layout scene prefixes s .lines)) (sym told) (call-stands layout scene prefixes ws [] m s start)
+    subst (λ (n : ℕ). Stored ws [] n (after m layout scene prefixes s .lines)) (sym (tells (t .stop) (t .tag) (t .count))) (call-stands layout scene prefixes ws [] m s start)

@@ -6,12 +6,13 @@ use native.Mathlib.Omega.{arith}
 use lib.ListN.{length, drop, take}
 use lib.Seq.{take-at, drop-at, drop-drop}
 use Rattle.spiral.specs.declared.util.Vec2.{Vec2}
+use Rattle.refusals.specs.Refusals.{Read, found, refused}
 use Rattle.drawing.specs.Sheet.{Event, line, noCount, noJoin, sheet, recordOf, emptyBox, countOf, drawAll}
 use Rattle.drawing.specs.Stands.{recordsOf, Stands, stands}
 use Rattle.drawing.specs.declared.line.Drawn.{Drawn}
 use Rattle.drawing.specs.declared.line.Drawn.the-variants as drawn
-use Rattle.flatten.specs.Tag.{Read, found, refused, eventsAt, headAt}
-use Rattle.flatten.specs.Step.{endOf, drawnOf, turnOf, refusedAt, behind, stepFrom, stepOf}
+use Rattle.flatten.specs.Tag.{eventsAt, headAt}
+use Rattle.flatten.specs.Step.{drawnOf, turnOf, refusedAt, behind, stepFrom, stepOf}
 use Rattle.flatten.specs.Call.{State, taken, after}
 use Rattle.flatten.specs.CallLaws.{carried}
 use Rattle.flatten.specs.declared.call.Layout.{Layout}
@@ -55,16 +56,14 @@ unchanged : (ws : List ℕ) (n : ℕ) → Grown ws n ws n
 unfolding drawAll
 unchanged ws n = record { path = 0; events = []; drew = stands 0 [] ws (drawn.On (record { count = n; bbox = emptyBox })) }
 
-end-count : (t : Turn) (h : Head) (d : Drawn) → countOf d ≡ turnOf t h (endOf d) .count
-unfolding turnOf endOf
+end-count : (t : Turn) (h : Head) (d : Drawn) → countOf d ≡ turnOf t h d .count
+unfolding turnOf
 end-count t h (drawn.On pen) = refl
-end-count t h (drawn.NotNumber n) = refl
-end-count t h (drawn.NoRoom n) = refl
-end-count t h (drawn.NoJoin n) = refl
+end-count t h (drawn.Stopped why n) = refl
 
 drawing-grows : (t : Turn) (h : Head) (ws : List ℕ) (path : ℕ) (r : Read (List Event)) → Grown ws (t .count) (behind t h (drawnOf path (t .count) ws r) .lines) (behind t h (drawnOf path (t .count) ws r) .turn .count)
 unfolding drawnOf turnOf
-drawing-grows t h ws path (refused s) = unchanged ws (t .count)
+drawing-grows t h ws path (refused why) = unchanged ws (t .count)
 drawing-grows t h ws path (found es) =
     let d = drawn.On (record { count = t .count; bbox = emptyBox }) in
     let s = drawAll path (sheet ws d) es in
@@ -72,7 +71,7 @@ drawing-grows t h ws path (found es) =
 
 head-grows : (r : Read Head) (layout : Layout) (scene prefixes ws : List ℕ) (t : Turn) → Grown ws (t .count) (stepFrom r layout scene prefixes ws t .lines) (stepFrom r layout scene prefixes ws t .turn .count)
 unfolding stepFrom refusedAt
-head-grows (refused s) layout scene prefixes ws t = unchanged ws (t .count)
+head-grows (refused why) layout scene prefixes ws t = unchanged ws (t .count)
 head-grows (found h) layout scene prefixes ws t = drawing-grows t h ws (h .tag .monoid .«path_ix») (eventsAt layout scene prefixes (t .tag) h)
 
 step-grows : (layout : Layout) (scene prefixes ws : List ℕ) (n : ℕ) (t : Turn) → Grown ws (t .count) (stepOf layout scene prefixes ws n t .lines) (stepOf layout scene prefixes ws n t .turn .count)

@@ -2,43 +2,24 @@
 use Prim.Native.Nat.{ℕ, _+_, _-_, _%_, _^_}
 use mathlib.Core.Bool.{false}
 use mathlib.Core.List.{List}
+use Rattle.refusals.specs.Refusals.{Read, found, refused}
+use Rattle.refusals.specs.declared.Refusal.{Refusal}
 use Rattle.drawing.specs.Sheet.{Event, Sheet, sheet, emptyBox, drawAll}
 use Rattle.drawing.specs.declared.line.IntBbox.{IntBbox}
 use Rattle.drawing.specs.declared.line.Drawn.{Drawn}
-use Rattle.drawing.specs.declared.line.Drawn.the-variants as drawn
+use Rattle.drawing.specs.declared.line.Drawn.the-variants.{On, Stopped}
 use Rattle.scene.specs.Tags.{bit}
-use Rattle.flatten.specs.Tag.{Read, found, refused, isPath, headAt, eventsAt}
+use Rattle.flatten.specs.Tag.{isPath, headAt, eventsAt}
 use Rattle.flatten.specs.declared.boxes.Change.{Change}
 use Rattle.flatten.specs.declared.call.Layout.{Layout}
 use Rattle.flatten.specs.declared.call.Turn.{Turn}
-use Rattle.flatten.specs.declared.call.Stop.{Stop}
-use Rattle.flatten.specs.declared.call.Stop.the-variants.{Going, NotNumber, NoRoom, NoJoin}
+use Rattle.flatten.specs.declared.call.Stop.the-variants.{Going, Refused}
 use Rattle.flatten.specs.declared.tag.Head.{Head}
-use Rattle.flatten.specs.declared.step.TagEnd.{TagEnd}
-use Rattle.flatten.specs.declared.step.TagEnd.the-variants.{Finished, Stopped}
-
--- ---- how a tag ends: finished, with its pen, or stopped, with the lines stored
-
-unfoldable pub endOf : Drawn → TagEnd
-endOf (drawn.On pen) = Finished pen
-endOf (drawn.NotNumber n) = Stopped NotNumber n
-endOf (drawn.NoRoom n) = Stopped NoRoom n
-endOf (drawn.NoJoin n) = Stopped NoJoin n
-
-pub record Ended : Type 0 where
-  pub end : TagEnd
-  pub lines : List ℕ
-
-abbrev pub ended : TagEnd → List ℕ → Ended
-ended e ws = record { end = e; lines = ws }
-
-abbrev pub endedOf : Sheet → Ended
-endedOf s = ended (endOf (s .drawn)) (s .words)
 
 -- a tag draws with a box of its own, behind the lines stored before
-unfoldable pub drawnOf : ℕ → ℕ → List ℕ → Read (List Event) → Ended
-drawnOf path count ws (found es) = endedOf (drawAll path (sheet ws (drawn.On (record { count = count; bbox = emptyBox }))) es)
-drawnOf path count ws (refused s) = ended (Stopped s count) ws
+unfoldable pub drawnOf : ℕ → ℕ → List ℕ → Read (List Event) → Sheet
+drawnOf path count ws (found es) = drawAll path (sheet ws (On (record { count = count; bbox = emptyBox }))) es
+drawnOf path count ws (refused why) = sheet ws (Stopped why count)
 
 -- ---- where the call stands then
 
@@ -48,8 +29,8 @@ changeOf h b =
     record { mark = isPath h; «draw_flags» = bit (h .flags) 0x40000000; «trans_ix» = h .tag .monoid .«trans_ix»; bbox = b }
 
 -- after a stop no tag is left, and nothing is merged
-unfoldable pub turnOf : Turn → Head → TagEnd → Turn
-turnOf t h (Finished pen) =
+unfoldable pub turnOf : Turn → Head → Drawn → Turn
+turnOf t h (On pen) =
     record {
       left = t .left - 1;
       tag = (t .tag + 1) % 2 ^ 64;
@@ -58,17 +39,17 @@ turnOf t h (Finished pen) =
       at = h .tag .monoid .«path_ix»;
       change = changeOf h (pen .bbox);
     }
-turnOf t h (Stopped s n) =
-    record { left = 0; tag = t .tag; count = n; stop = s; at = h .tag .monoid .«path_ix»; change = changeOf h emptyBox }
+turnOf t h (Stopped why n) =
+    record { left = 0; tag = t .tag; count = n; stop = Refused why; at = h .tag .monoid .«path_ix»; change = changeOf h emptyBox }
 
 -- a tag that is refused at its head changes no box
-unfoldable pub refusedAt : Turn → Stop → Turn
-refusedAt t s =
+unfoldable pub refusedAt : Turn → Refusal → Turn
+refusedAt t why =
     record {
       left = 0;
       tag = t .tag;
       count = t .count;
-      stop = s;
+      stop = Refused why;
       at = 0;
       change = record { mark = false; «draw_flags» = 0; «trans_ix» = 0; bbox = emptyBox };
     }
@@ -81,13 +62,13 @@ pub record Stepped : Type 0 where
 abbrev pub stepped : Turn → List ℕ → Stepped
 stepped t ws = record { turn = t; lines = ws }
 
-abbrev pub behind : Turn → Head → Ended → Stepped
-behind t h e = stepped (turnOf t h (e .end)) (e .lines)
+abbrev pub behind : Turn → Head → Sheet → Stepped
+behind t h s = stepped (turnOf t h (s .drawn)) (s .words)
 
 unfoldable pub stepFrom : Read Head → Layout → List ℕ → List ℕ → List ℕ → Turn → Stepped
 stepFrom (found h) layout scene prefixes lines t =
     behind t h (drawnOf (h .tag .monoid .«path_ix») (t .count) lines (eventsAt layout scene prefixes (t .tag) h))
-stepFrom (refused s) layout scene prefixes lines t = stepped (refusedAt t s) lines
+stepFrom (refused why) layout scene prefixes lines t = stepped (refusedAt t why) lines
 
 unfoldable pub stepOf : Layout → List ℕ → List ℕ → List ℕ → ℕ → Turn → Stepped
 stepOf layout scene prefixes lines n t = stepFrom (headAt layout scene prefixes n (t .tag)) layout scene prefixes lines t

@@ -4,6 +4,8 @@ use mathlib.Core.Bool.{Bool, true, false, _&&_, cond}
 use mathlib.Core.List.{List, []}
 use lib.Dec.{leb, eqb}
 use lib.Ieee.{Float, binary32, ofBits}
+use Rattle.refusals.specs.Refusals.{Read, found, refused}
+use Rattle.refusals.specs.declared.Refusal.the-variants.{Outside, NoBox}
 use Rattle.spiral.specs.declared.util.Vec2.{Vec2}
 use Rattle.drawing.specs.Sheet.{Event}
 use Rattle.segment.specs.Segment.{neighborOf, shapeEvents}
@@ -12,14 +14,8 @@ use Rattle.segment.specs.declared.Shape.{Shape}
 use Rattle.segment.specs.declared.Shape.the-variants.{Nothing, Fill, StartCap, Stroke}
 use Rattle.scene.specs.Tags.{bit, tagOf}
 use Rattle.scene.specs.Reading.{segmentOf, transformOf, flagsOf, widthOf}
-use Rattle.scene.specs.declared.words.Word.{Word}
-use Rattle.scene.specs.declared.words.Word.the-variants as word
 use Rattle.scene.specs.declared.tags.PathTagData.{PathTagData}
-use Rattle.scene.specs.declared.tags.TagRead.{TagRead}
-use Rattle.scene.specs.declared.tags.TagRead.the-variants as tag
 use Rattle.flatten.specs.declared.call.Layout.{Layout}
-use Rattle.flatten.specs.declared.call.Stop.{Stop}
-use Rattle.flatten.specs.declared.call.Stop.the-variants.{Outside, NoPrefix, NoBox}
 use Rattle.flatten.specs.declared.tag.Head.{Head}
 use Rattle.flatten.specs.declared.tag.HeadRead.{HeadRead}
 use Rattle.flatten.specs.declared.tag.HeadRead.the-variants as head
@@ -30,46 +26,33 @@ use Rattle.flatten.specs.declared.tag.ShapeRead.the-variants as shape
 
 -- ---- reads, one after the other
 
-pub data Read (A : Type 0) : Type 0 where
-  found : A → Read A
-  refused : Stop → Read A
-
 infixl 1 _>>=_
 unfoldable pub _>>=_ : {A B : Type 0} → Read A → (A → Read B) → Read B
 found a >>= f = f a
-refused s >>= f = refused s
+refused why >>= f = refused why
 
 -- what is there, or 2
 abbrev pub inside : {A : Type 0} → Bool → A → Read A
 inside true a = found a
 inside false a = refused Outside
 
-abbrev pub wordRead : Word → Read ℕ
-wordRead (word.At w) = found w
-wordRead word.Outside = refused Outside
-
-abbrev pub tagRead : TagRead → Read PathTagData
-tagRead (tag.Tag d) = found d
-tagRead tag.NoWord = refused Outside
-tagRead tag.NoPrefix = refused NoPrefix
-
 -- the code's answers
 abbrev pub headRead : HeadRead → Read Head
 headRead (head.Found h) = found h
-headRead (head.Refused s) = refused s
+headRead (head.Refused why) = refused why
 
 abbrev pub neighborRead : NeighborRead → Read Neighbor
 neighborRead (neighbor.Found n) = found n
-neighborRead (neighbor.Refused s) = refused s
+neighborRead (neighbor.Refused why) = refused why
 
 abbrev pub shapeRead : ShapeRead → Read Shape
 shapeRead (shape.Found s) = found s
-shapeRead (shape.Refused s) = refused s
+shapeRead (shape.Refused why) = refused why
 
 -- ---- a tag with its style's flags
 
 abbrev pub tagAt : Layout → List ℕ → List ℕ → ℕ → Read PathTagData
-tagAt layout scene prefixes ix = tagRead (tagOf scene (layout .«tag_base») prefixes ix)
+tagAt layout scene prefixes ix = tagOf scene (layout .«tag_base») prefixes ix
 
 abbrev pub isPath : Head → Bool
 isPath h = eqb (bit (h .tag .«tag_byte») 0x10) 1
@@ -82,7 +65,7 @@ boxed n h = cond (isPath h && leb n (h .tag .monoid .«path_ix»)) (refused NoBo
 unfoldable pub headAt : Layout → List ℕ → List ℕ → ℕ → ℕ → Read Head
 headAt layout scene prefixes n ix =
     tagAt layout scene prefixes ix
-    >>= λ t. wordRead (flagsOf scene (layout .«style_base») (t .monoid .«style_ix»))
+    >>= λ t. flagsOf scene (layout .«style_base») (t .monoid .«style_ix»)
     >>= λ flags. boxed n (record { tag = t; flags = flags })
 
 -- ---- what it draws
@@ -120,7 +103,7 @@ isStroke h = eqb (bit (h .flags) 0x80000000) 1
 -- a stroke: the line width, then the neighbour
 unfoldable pub shapeAt : Bool → Layout → List ℕ → List ℕ → ℕ → Head → Read Shape
 shapeAt true layout scene prefixes ix h =
-    wordRead (widthOf scene (layout .«style_base») (h .tag .monoid .«style_ix»))
+    widthOf scene (layout .«style_base») (h .tag .monoid .«style_ix»)
     >>= λ w. strokeAt layout scene prefixes ix (h .tag .«tag_byte») (ofBits binary32 w)
 shapeAt false layout scene prefixes ix h = found Fill
 

@@ -1,12 +1,13 @@
 // The whole call: the turns over the tags, and the answer.
 ghost use mathlib.Core.Path.{_≡_};
 ghost use Prim.Native.Nat.{_<_};
-ghost use Rattle.flatten.specs.Call.{firstTurn, startOf, answerOf, toldOf, reportOf, said, outcome, callOf, fewOf, ownedOf};
+ghost use Rattle.flatten.specs.Call.{firstTurn, startOf, answerOf, toldOf, reportOf, outcome, callOf, fewOf, ownedOf};
 use crate::boxes::Change;
 use crate::boxes::PathBox;
 use crate::boxes::merge_at;
 use crate::step::step;
 use drawing::line::IntBbox;
+use refusals::Refusal;
 
 // The workgroups, each of 256 tags, and where in the scene the parts begin.
 pub struct Layout {
@@ -17,16 +18,10 @@ pub struct Layout {
     pub style_base: u32,
 }
 
-// Why the call ended before the last tag.
+// Whether the call was refused before its last tag.
 pub enum Stop {
     Going,
-    BadBase,
-    Outside,
-    NoPrefix,
-    NoBox,
-    NotNumber,
-    NoRoom,
-    NoJoin,
+    Refused(Refusal),
 }
 
 // Where the call stands: the tags left (none after a stop), the tag in turn, the lines stored, the
@@ -43,13 +38,7 @@ pub struct Turn {
 // A refusal holds the tag in turn and the count of lines stored.
 pub enum Answer {
     Lines(u32),
-    BadBase,
-    Outside(u64, u32),
-    NoPrefix(u64, u32),
-    NoBox(u64, u32),
-    NotNumber(u64, u32),
-    NoRoom(u64, u32),
-    NoJoin(u64, u32),
+    Refused(Refusal, u64, u32),
 }
 
 // An answer in numbers.
@@ -59,25 +48,20 @@ pub struct Told {
     pub count: u32,
 }
 
-fn said(number: u32, tag: u64, count: u32) -> Told
-    ensures { λ r. ⌜ r ≡ said number tag count ⌝ }
-{
-    Told { number, tag, count }
-}
-
 impl Answer {
     pub fn told(self) -> Told
         ensures { λ r. ⌜ r ≡ toldOf self ⌝ }
     {
         match self {
-            Answer::Lines(count) => said(0, 0, count),
-            Answer::BadBase => said(1, 0, 0),
-            Answer::Outside(tag, count) => said(2, tag, count),
-            Answer::NoPrefix(tag, count) => said(3, tag, count),
-            Answer::NoBox(tag, count) => said(4, tag, count),
-            Answer::NotNumber(tag, count) => said(5, tag, count),
-            Answer::NoRoom(tag, count) => said(6, tag, count),
-            Answer::NoJoin(tag, count) => said(7, tag, count),
+            Answer::Lines(count) => Told {
+                number: 0,
+                tag: 0,
+                count,
+            },
+            Answer::Refused(why, tag, count) => {
+                let number = why.number();
+                Told { number, tag, count }
+            }
         }
     }
 }
@@ -102,19 +86,19 @@ fn first_turn(left: u64, stop: Stop) -> Turn
     }
 }
 
-pub fn start(layout: Layout, scene_len: usize) -> Turn
+fn start(layout: Layout, scene_len: usize) -> Turn
     ensures { λ r. ⌜ r ≡ startOf layout «scene_len» ⌝ }
 {
     if scene_len < layout.tag_base as usize {
-        return first_turn(0, Stop::BadBase);
+        return first_turn(0, Stop::Refused(Refusal::BadBase));
     }
     if scene_len < layout.data_base as usize {
-        return first_turn(0, Stop::BadBase);
+        return first_turn(0, Stop::Refused(Refusal::BadBase));
     }
     first_turn(layout.n_wg as u64 * 256, Stop::Going)
 }
 
-pub fn answered(t: Turn) -> Answer
+fn answered(t: Turn) -> Answer
     ensures { λ r. ⌜ r ≡ answerOf t ⌝ }
 {
     let tag = t.tag;
@@ -122,13 +106,7 @@ pub fn answered(t: Turn) -> Answer
     let stop = t.stop;
     match stop {
         Stop::Going => Answer::Lines(count),
-        Stop::BadBase => Answer::BadBase,
-        Stop::Outside => Answer::Outside(tag, count),
-        Stop::NoPrefix => Answer::NoPrefix(tag, count),
-        Stop::NoBox => Answer::NoBox(tag, count),
-        Stop::NotNumber => Answer::NotNumber(tag, count),
-        Stop::NoRoom => Answer::NoRoom(tag, count),
-        Stop::NoJoin => Answer::NoJoin(tag, count),
+        Stop::Refused(why) => Answer::Refused(why, tag, count),
     }
 }
 
@@ -151,7 +129,7 @@ pub fn flatten_main(
     boxes: &mut [PathBox],
     lines: &mut [u32],
 ) -> Answer
-    ensures { λ r. ⌜ outcome r (now (boxes .exit)) (now (lines .exit))
+    ensures { λ r. ⌜ outcome (toldOf r) (now (boxes .exit)) (now (lines .exit))
         ≡ callOf layout (now (scene .entry)) (now (prefixes .entry)) (now (boxes .entry)) (now (lines .entry)) ⌝ }
 {
     let mut t = start(layout, scene.len());
@@ -186,7 +164,7 @@ pub fn flatten_owned(
     n: usize,
     lines: &mut [u32],
 ) -> Owned
-    ensures { λ r. ⌜ outcome (r .answer) (r .boxes) (now (lines .exit))
+    ensures { λ r. ⌜ outcome (toldOf (r .answer)) (r .boxes) (now (lines .exit))
         ≡ ownedOf layout (now (scene .entry)) (now (prefixes .entry)) boxes n (now (lines .entry)) ⌝ }
 {
     let n_boxes = few(n);

@@ -1,8 +1,9 @@
 // One tag.
 ghost use mathlib.Core.Path.{_≡_};
 ghost use Prim.Native.Nat.{_-_, _<_};
+ghost use Rattle.drawing.specs.Sheet.{sheet};
 ghost use Rattle.flatten.specs.Tag.{eventsAt};
-ghost use Rattle.flatten.specs.Step.{endOf, ended, drawnOf, changeOf, turnOf, refusedAt, stepped, stepOf};
+ghost use Rattle.flatten.specs.Step.{drawnOf, changeOf, turnOf, refusedAt, stepped, stepOf};
 use crate::boxes::Change;
 use crate::call::Layout;
 use crate::call::Stop;
@@ -15,26 +16,10 @@ use crate::tag::read_shape;
 use drawing::line::Drawn;
 use drawing::line::IntBbox;
 use drawing::line::Pen;
+use refusals::Refusal;
 use scene::reading::read_path_segment;
 use scene::reading::read_transform;
 use segment::draw_shape;
-
-// A tag finishes with its pen, or stops with the lines stored.
-enum TagEnd {
-    Finished(Pen),
-    Stopped(Stop, u32),
-}
-
-fn end_of(drawn: Drawn) -> TagEnd
-    ensures { λ r. ⌜ r ≡ endOf drawn ⌝ }
-{
-    match drawn {
-        Drawn::On(pen) => TagEnd::Finished(pen),
-        Drawn::NotNumber(n) => TagEnd::Stopped(Stop::NotNumber, n),
-        Drawn::NoRoom(n) => TagEnd::Stopped(Stop::NoRoom, n),
-        Drawn::NoJoin(n) => TagEnd::Stopped(Stop::NoJoin, n),
-    }
-}
 
 // What a tag draws starts a box of its own.
 fn draw_tag(
@@ -45,15 +30,15 @@ fn draw_tag(
     ix: u64,
     head: Head,
     count: u32,
-) -> TagEnd
-    ensures { λ r. ⌜ ended r (now (lines .exit))
+) -> Drawn
+    ensures { λ r. ⌜ sheet (now (lines .exit)) r
         ≡ drawnOf (head .tag .monoid .«path_ix») count (now (lines .entry)) (eventsAt layout (now (scene .entry)) (now (prefixes .entry)) ix head) ⌝ }
 {
     let bbox = IntBbox::empty();
     let pen = Pen { count, bbox };
     let tag = head.tag;
     if tag.tag_byte % 4 == 0 {
-        return TagEnd::Finished(pen);
+        return Drawn::On(pen);
     }
     let is_stroke = head.flags / 0x8000_0000 % 2 == 1;
     let transform = read_transform(scene, layout.transform_base, tag.monoid.trans_ix);
@@ -67,13 +52,13 @@ fn draw_tag(
             return match read_shape(layout, scene, prefixes, ix, head) {
                 ShapeRead::Found(shape) => {
                     let ink = Drawn::On(pen);
-                    end_of(draw_shape(lines, ink, path, head.flags, points, z, shape))
+                    draw_shape(lines, ink, path, head.flags, points, z, shape)
                 }
-                ShapeRead::Refused(stop) => TagEnd::Stopped(stop, count),
+                ShapeRead::Refused(why) => Drawn::Stopped(why, count),
             };
         }
     }
-    TagEnd::Stopped(Stop::Outside, count)
+    Drawn::Stopped(Refusal::Outside, count)
 }
 
 fn change_of(head: Head, bbox: IntBbox) -> Change
@@ -93,12 +78,12 @@ fn one_less(left: u64) -> u64
     if left == 0 { 0 } else { left - 1 }
 }
 
-fn turn_of(t: Turn, head: Head, end: TagEnd) -> Turn
-    ensures { λ r. ⌜ r ≡ turnOf t head end ⌝ }
+fn turn_of(t: Turn, head: Head, drawn: Drawn) -> Turn
+    ensures { λ r. ⌜ r ≡ turnOf t head drawn ⌝ }
 {
     let at = head.tag.monoid.path_ix as usize;
-    match end {
-        TagEnd::Finished(pen) => {
+    match drawn {
+        Drawn::On(pen) => {
             let change = change_of(head, pen.bbox);
             Turn {
                 left: one_less(t.left),
@@ -109,13 +94,13 @@ fn turn_of(t: Turn, head: Head, end: TagEnd) -> Turn
                 change,
             }
         }
-        TagEnd::Stopped(stop, count) => {
+        Drawn::Stopped(why, count) => {
             let change = change_of(head, IntBbox::empty());
             Turn {
                 left: 0,
                 tag: t.tag,
                 count,
-                stop,
+                stop: Stop::Refused(why),
                 at,
                 change,
             }
@@ -123,8 +108,8 @@ fn turn_of(t: Turn, head: Head, end: TagEnd) -> Turn
     }
 }
 
-fn refused_at(t: Turn, stop: Stop) -> Turn
-    ensures { λ r. ⌜ r ≡ refusedAt t stop ⌝ }
+fn refused_at(t: Turn, why: Refusal) -> Turn
+    ensures { λ r. ⌜ r ≡ refusedAt t why ⌝ }
 {
     let bbox = IntBbox::empty();
     let change = Change {
@@ -137,7 +122,7 @@ fn refused_at(t: Turn, stop: Stop) -> Turn
         left: 0,
         tag: t.tag,
         count: t.count,
-        stop,
+        stop: Stop::Refused(why),
         at: 0,
         change,
     }
@@ -156,9 +141,9 @@ pub fn step(
 {
     match read_head(layout, scene, prefixes, n_boxes, t.tag) {
         HeadRead::Found(head) => {
-            let end = draw_tag(layout, scene, prefixes, lines, t.tag, head, t.count);
-            turn_of(t, head, end)
+            let drawn = draw_tag(layout, scene, prefixes, lines, t.tag, head, t.count);
+            turn_of(t, head, drawn)
         }
-        HeadRead::Refused(stop) => refused_at(t, stop),
+        HeadRead::Refused(why) => refused_at(t, why),
     }
 }

@@ -2,7 +2,7 @@
 ghost use mathlib.Core.Path.{_≡_};
 ghost use Rattle.flatten.specs.Tag.{headRead, headAt, boxed, neighborRead, neighborAt, shapeRead, shapeAt, strokeAt, isStroke};
 use crate::call::Layout;
-use crate::call::Stop;
+use refusals::Refusal;
 use scene::reading::line_width;
 use scene::reading::read_path_segment;
 use scene::reading::style_flags;
@@ -22,17 +22,17 @@ pub struct Head {
 
 pub enum HeadRead {
     Found(Head),
-    Refused(Stop),
+    Refused(Refusal),
 }
 
 pub enum NeighborRead {
     Found(Neighbor),
-    Refused(Stop),
+    Refused(Refusal),
 }
 
 pub enum ShapeRead {
     Found(Shape),
-    Refused(Stop),
+    Refused(Refusal),
 }
 
 // A path tag needs its path's box.
@@ -41,7 +41,7 @@ fn with_box(head: Head, n_boxes: usize) -> HeadRead
 {
     if head.tag.tag_byte / 0x10 % 2 == 1 {
         if n_boxes <= head.tag.monoid.path_ix as usize {
-            return HeadRead::Refused(Stop::NoBox);
+            return HeadRead::Refused(Refusal::NoBox);
         }
     }
     HeadRead::Found(head)
@@ -60,10 +60,9 @@ pub fn read_head(
     match compute_tag_monoid(scene, layout.tag_base, prefixes, ix) {
         TagRead::Tag(tag) => match style_flags(scene, layout.style_base, tag.monoid.style_ix) {
             Word::At(flags) => with_box(Head { tag, flags }, n_boxes),
-            Word::Outside => HeadRead::Refused(Stop::Outside),
+            Word::Outside => HeadRead::Refused(Refusal::Outside),
         },
-        TagRead::NoWord => HeadRead::Refused(Stop::Outside),
-        TagRead::NoPrefix => HeadRead::Refused(Stop::NoPrefix),
+        TagRead::Refused(why) => HeadRead::Refused(why),
     }
 }
 
@@ -79,11 +78,10 @@ fn read_neighbor(layout: Layout, scene: &[u32], prefixes: &[u32], ix: u64) -> Ne
                 let points = read.points;
                 NeighborRead::Found(neighbor_of(tag.tag_byte, points))
             } else {
-                NeighborRead::Refused(Stop::Outside)
+                NeighborRead::Refused(Refusal::Outside)
             }
         }
-        TagRead::NoWord => NeighborRead::Refused(Stop::Outside),
-        TagRead::NoPrefix => NeighborRead::Refused(Stop::NoPrefix),
+        TagRead::Refused(why) => NeighborRead::Refused(why),
     }
 }
 
@@ -107,7 +105,7 @@ fn read_stroke(
     let next = std::num::wrapping_add_u64(ix, 1);
     match read_neighbor(layout, scene, prefixes, next) {
         NeighborRead::Found(neighbor) => ShapeRead::Found(Shape::Stroke(width, neighbor)),
-        NeighborRead::Refused(stop) => ShapeRead::Refused(stop),
+        NeighborRead::Refused(why) => ShapeRead::Refused(why),
     }
 }
 
@@ -121,7 +119,7 @@ pub fn read_shape(layout: Layout, scene: &[u32], prefixes: &[u32], ix: u64, head
                 let width = maths::float_of(word);
                 read_stroke(layout, scene, prefixes, ix, head.tag.tag_byte, width)
             }
-            Word::Outside => ShapeRead::Refused(Stop::Outside),
+            Word::Outside => ShapeRead::Refused(Refusal::Outside),
         }
     } else {
         ShapeRead::Found(Shape::Fill)

@@ -32,9 +32,7 @@ fn is_stop(line: &[u8; 351], number: u32, count: u32) -> bool {
 fn is_told(line: &[u8; 351], r: Drawn) -> bool {
     match r {
         Drawn::On(pen) => is_stop(line, 0, pen.count) & is_box(line, pen.bbox),
-        Drawn::NotNumber(count) => is_stop(line, 5, count),
-        Drawn::NoRoom(count) => is_stop(line, 6, count),
-        Drawn::NoJoin(count) => is_stop(line, 7, count),
+        Drawn::Stopped(why, count) => is_stop(line, why.number(), count),
     }
 }
 

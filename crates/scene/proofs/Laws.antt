@@ -7,7 +7,7 @@ use native.Mathlib.Numerals.{add-one}
 use native.Mathlib.Omega.{arith}
 use lib.ListN.{length, getD, set, drop, length-append, length-drop}
 use lib.Seq.{sets, sets-eq, take-at, drop-append-add, drop-drop, getD-drop}
-use Rattle.scene.specs.Tags.{less, wordSums, plus, sumsBelow, sumsBefore, prefixes, fourWords, told, scanOf, filled}
+use Rattle.scene.specs.Tags.{less, wordSums, plus, sumsBelow, sumsBefore, prefixes, fourWords, scanTold, scanOf, filled}
 use Rattle.scene.specs.declared.tags.PathMonoid.{PathMonoid}
 use Rattle.scene.specs.declared.tags.Scanned.the-variants.{Filled, PastEnd}
 use borrow.Author.Tests.{le-leb, lt-leb}
@@ -84,11 +84,11 @@ turn {scene} {lent} {base = base} {i} f h put word sum =
       room = omega arith;
     }
 
-pub past : (scene : List ℕ) (base : ℕ) (lent : List ℕ) → length scene < base → told PastEnd lent ≡ scanOf scene base lent
-unfolding told scanOf
+pub past : (scene : List ℕ) (base : ℕ) (lent : List ℕ) → length scene < base → scanTold PastEnd lent ≡ scanOf scene base lent
+unfolding scanTold scanOf
 past scene base lent h = rw (lt-leb _ _ h)
 
 pub done : {scene lent words : List ℕ} {base n : ℕ} {s : PathMonoid} → Filling scene base lent words s n → base ≤ length scene
-    → n ≡ min (length scene - base) (length lent / 4) → told (Filled n) words ≡ scanOf scene base lent
-unfolding told scanOf filled
+    → n ≡ min (length scene - base) (length lent / 4) → scanTold (Filled n) words ≡ scanOf scene base lent
+unfolding scanTold scanOf filled
 done f h e = rw (le-leb _ _ h, ← e, f .stored)

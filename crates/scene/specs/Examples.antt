@@ -9,8 +9,8 @@ use Rattle.spiral.specs.Util.{newOf}
 use Rattle.scene.specs.Words.{wordAt}
 use Rattle.scene.specs.Tags.{sums, tagSums, plus, byteAt, sumsBelow, wordSums, tagData, prefixAt, withPrefix, tagIn, tagOf, sumsBefore, prefixes, filled, scanOf}
 use Rattle.scene.specs.Reading.{i16Of, i16Point, transformOf}
-use Rattle.scene.specs.declared.tags.TagRead.{TagRead}
-use Rattle.scene.specs.declared.tags.TagRead.the-variants.{Tag}
+use Rattle.refusals.specs.Refusals.{Read, found}
+use Rattle.scene.specs.declared.tags.PathTagData.{PathTagData}
 
 -- A triangle whose first tag is given: a transform, then a style, two lines, a line that ends the subpath, and a path.
 -- Its points stand at word 0x40, its transform at 0x44.
@@ -20,11 +20,11 @@ sceneFrom first =
     ++ 0x00000000 ∷ 0x00000003 ∷ 0x00060000 ∷ 0x00000000 ∷ 0x3f800000 ∷ 0 ∷ 0 ∷ 0x3f800000 ∷ 0 ∷ 0 ∷ 0 ∷ 0 ∷ [])
 
 -- the tag at an index, with the prefixes of a fresh scan
-abbrev tag : ℕ → ℕ → TagRead
+abbrev tag : ℕ → ℕ → Read PathTagData
 tag first ix = tagOf (sceneFrom first) 0 (scanOf (sceneFrom first) 0 (replicate 4096 0) .words) ix
 
-abbrev read : ℕ → ℕ → ℕ → TagRead
-read byte transform offset = Tag (record { «tag_byte» = byte; monoid = sums 0 transform 0 offset })
+abbrev read : ℕ → ℕ → ℕ → Read PathTagData
+read byte transform offset = found (record { «tag_byte» = byte; monoid = sums 0 transform 0 offset })
 
 -- the data offsets of the three lines are 0, 1 and 2
 pub triangle-tags : map (tag 0x20) (2 ∷ 3 ∷ 4 ∷ []) ≡ read 0x01 0 0 ∷ read 0x01 0 1 ∷ read 0x05 0 2 ∷ []

@@ -1,5 +1,6 @@
 pub mod Words
 pub mod Tags
 pub mod Reading
+pub mod Early
 pub mod Only
 pub mod Examples

@@ -9,10 +9,10 @@ use lib.Ieee.{Float, binary32, ofBits, ofInt, neg}
 use Rattle.laws.specs.Binary32.{_⊘_, whole}
 use Rattle.spiral.specs.Util.{newOf, mixOf}
 use Rattle.spiral.specs.declared.util.Vec2.{Vec2}
+use Rattle.refusals.specs.Refusals.{Read, refused}
+use Rattle.refusals.specs.declared.Refusal.the-variants.{Outside}
 use Rattle.scene.specs.Words.{wordAt}
 use Rattle.scene.specs.Tags.{bit}
-use Rattle.scene.specs.declared.words.Word.{Word}
-use Rattle.scene.specs.declared.words.Word.the-variants.{Outside}
 use Rattle.scene.specs.declared.reading.SegmentRead.{SegmentRead}
 use Rattle.scene.specs.declared.reading.TransformRead.{TransformRead}
 
@@ -102,9 +102,9 @@ transformOf scene base ix =
     (record { found = false; z = replicate 6 (whole 0) })
 
 -- the address of a style's flags wraps
-unfoldable pub flagsOf : List ℕ → ℕ → ℕ → Word
+unfoldable pub flagsOf : List ℕ → ℕ → ℕ → Read ℕ
 flagsOf scene base ix = wordAt scene ((base + ix) % 2 ^ 32)
 
 -- that of its line width does not
-unfoldable pub widthOf : List ℕ → ℕ → ℕ → Word
-widthOf scene base ix = cond (ltb (base + ix + 1) (2 ^ 32)) (wordAt scene (base + ix + 1)) Outside
+unfoldable pub widthOf : List ℕ → ℕ → ℕ → Read ℕ
+widthOf scene base ix = cond (ltb (base + ix + 1) (2 ^ 32)) (wordAt scene (base + ix + 1)) (refused Outside)

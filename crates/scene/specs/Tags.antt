@@ -4,15 +4,15 @@ use mathlib.Core.Bool.{Bool, true, false, cond}
 use mathlib.Core.List.{List, [], _∷_, _++_}
 use lib.ListN.{length, getD, drop}
 use lib.Dec.{leb, ltb, eqb}
+use Rattle.refusals.specs.Refusals.{numberOf, Read, found, refused}
+use Rattle.refusals.specs.declared.Refusal.the-variants as refusal
 use Rattle.scene.specs.Words.{wordAt}
-use Rattle.scene.specs.declared.words.Word.{Word}
-use Rattle.scene.specs.declared.words.Word.the-variants.{At, Outside}
 use Rattle.scene.specs.declared.tags.PathMonoid.{PathMonoid}
 use Rattle.scene.specs.declared.tags.PathTagData.{PathTagData}
 use Rattle.scene.specs.declared.tags.Prefix.{Prefix}
 use Rattle.scene.specs.declared.tags.Prefix.the-variants.{Lent, Missing}
 use Rattle.scene.specs.declared.tags.TagRead.{TagRead}
-use Rattle.scene.specs.declared.tags.TagRead.the-variants.{Tag, NoWord, NoPrefix}
+use Rattle.scene.specs.declared.tags.TagRead.the-variants.{Tag, Refused}
 use Rattle.scene.specs.declared.tags.Scanned.{Scanned}
 use Rattle.scene.specs.declared.tags.Scanned.the-variants.{Filled, PastEnd}
 
@@ -69,18 +69,23 @@ prefixAt lent i =
     Missing
 
 -- a zero byte skips the prefix
-unfoldable pub withPrefix : ℕ → PathMonoid → Bool → Prefix → TagRead
-withPrefix byte below true prefix = Tag (tagData byte below)
-withPrefix byte below false (Lent before) = Tag (tagData byte (plus before below))
-withPrefix byte below false Missing = NoPrefix
+unfoldable pub withPrefix : ℕ → PathMonoid → Bool → Prefix → Read PathTagData
+withPrefix byte below true prefix = found (tagData byte below)
+withPrefix byte below false (Lent before) = found (tagData byte (plus before below))
+withPrefix byte below false Missing = refused refusal.NoPrefix
 
-unfoldable pub tagIn : Word → ℕ → Prefix → TagRead
-tagIn (At word) place prefix = withPrefix (byteAt word place) (sumsBelow word place) (eqb (byteAt word place) 0) prefix
-tagIn Outside place prefix = NoWord
+unfoldable pub tagIn : Read ℕ → ℕ → Prefix → Read PathTagData
+tagIn (found word) place prefix = withPrefix (byteAt word place) (sumsBelow word place) (eqb (byteAt word place) 0) prefix
+tagIn (refused why) place prefix = refused why
 
 -- the tag at an index: its word is read first, then the word's prefix
-unfoldable pub tagOf : List ℕ → ℕ → List ℕ → ℕ → TagRead
+unfoldable pub tagOf : List ℕ → ℕ → List ℕ → ℕ → Read PathTagData
 tagOf scene base lent ix = tagIn (wordAt scene (base + ix / 4)) (ix % 4) (prefixAt lent (ix / 4))
+
+-- the code's answer
+abbrev pub tagRead : TagRead → Read PathTagData
+tagRead (Tag d) = found d
+tagRead (Refused why) = refused why
 
 -- ---- the scan
 
@@ -103,9 +108,9 @@ pub record Scan : Type 0 where
   pub count : ℕ
   pub words : List ℕ
 
-unfoldable pub told : Scanned → List ℕ → Scan
-told (Filled n) ws = record { number = 0; count = n; words = ws }
-told PastEnd ws = record { number = 1; count = 0; words = ws }
+unfoldable pub scanTold : Scanned → List ℕ → Scan
+scanTold (Filled n) ws = record { number = 0; count = n; words = ws }
+scanTold PastEnd ws = record { number = numberOf refusal.BadBase; count = 0; words = ws }
 
 unfoldable pub filled : List ℕ → ℕ → List ℕ → Scan
 filled tags n lent = record { number = 0; count = n; words = prefixes tags n ++ drop (n * 4) lent }
@@ -115,4 +120,4 @@ unfoldable pub scanOf : List ℕ → ℕ → List ℕ → Scan
 scanOf scene base lent =
     cond (leb base (length scene))
     (filled (drop base scene) (min (length scene - base) (length lent / 4)) lent)
-    (record { number = 1; count = 0; words = lent })
+    (record { number = numberOf refusal.BadBase; count = 0; words = lent })

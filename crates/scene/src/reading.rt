@@ -2,6 +2,8 @@
 ghost use mathlib.Core.Path.{_≡_};
 ghost use Prim.Native.Nat.{_+_, _*_, _≤_};
 ghost use lib.ListN.{length};
+ghost use Rattle.refusals.specs.Refusals.{told};
+ghost use Rattle.scene.specs.Words.{wordRead};
 ghost use Rattle.scene.specs.Reading.{floatAt, i16Of, f32Point, i16Point, pointWords, pointAt, lineCubic, quadCubic, wide, marker, pointCount, cubicOf, reaches, segmentOf, floatsAt, transformOf, flagsOf, widthOf};
 use crate::words::Word;
 use crate::words::word_at;
@@ -211,7 +213,7 @@ pub fn read_transform(scene: &[u32], transform_base: u32, trans_ix: u32) -> Tran
 
 // The word of the style's flags, whose address wraps.
 pub fn style_flags(scene: &[u32], style_base: u32, style_ix: u32) -> Word
-    ensures { λ r. ⌜ r ≡ flagsOf (now (scene .entry)) «style_base» «style_ix» ⌝ }
+    ensures { λ r. ⌜ told (wordRead r) ≡ told (flagsOf (now (scene .entry)) «style_base» «style_ix») ⌝ }
 {
     word_at(
         scene,
@@ -221,7 +223,7 @@ pub fn style_flags(scene: &[u32], style_base: u32, style_ix: u32) -> Word
 
 // The word of the line width, whose address does not wrap.
 pub fn line_width(scene: &[u32], style_base: u32, style_ix: u32) -> Word
-    ensures { λ r. ⌜ r ≡ widthOf (now (scene .entry)) «style_base» «style_ix» ⌝ }
+    ensures { λ r. ⌜ told (wordRead r) ≡ told (widthOf (now (scene .entry)) «style_base» «style_ix») ⌝ }
 {
     let at = style_base as u64 + style_ix as u64 + 1;
     if at <= 0xffff_ffff {

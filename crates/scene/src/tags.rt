@@ -4,9 +4,11 @@ ghost use Prim.Native.Nat.{_+_, _<_, _≤_, min};
 ghost use lib.ListN.{length};
 ghost use lib.Seq.{sets};
 ghost use lib.Dec.{eqb};
-ghost use Rattle.scene.specs.Tags.{tagSums, plus, byteAt, sumsBelow, wordSums, tagData, prefixAt, withPrefix, tagOf, fourWords, told, scanOf};
+ghost use Rattle.refusals.specs.Refusals.{told};
+ghost use Rattle.scene.specs.Tags.{tagSums, plus, byteAt, sumsBelow, wordSums, tagData, prefixAt, withPrefix, tagRead, tagOf, fourWords, scanTold, scanOf};
 use crate::words::Word;
 use crate::words::word_at;
+use refusals::Refusal;
 
 // What tags add up to, each sum modulo 2^32.
 pub struct PathMonoid {
@@ -23,10 +25,8 @@ pub struct PathTagData {
 
 pub enum TagRead {
     Tag(PathTagData),
-    // The tag's word lies outside the scene: refusal 2.
-    NoWord,
-    // The word's prefix is not lent: refusal 3.
-    NoPrefix,
+    // The tag's word lies outside the scene, or its prefix is not lent.
+    Refused(Refusal),
 }
 
 enum Prefix {
@@ -130,20 +130,20 @@ fn prefix_at(prefixes: &[u32], i: u64) -> Prefix
 
 // A zero byte skips the prefix.
 fn with_prefix(tag_byte: u8, below: PathMonoid, prefixes: &[u32], i: u64) -> TagRead
-    ensures { λ r. ⌜ r ≡ withPrefix «tag_byte» below (eqb «tag_byte» 0) (prefixAt (now (prefixes .entry)) i) ⌝ }
+    ensures { λ r. ⌜ tagRead r ≡ withPrefix «tag_byte» below (eqb «tag_byte» 0) (prefixAt (now (prefixes .entry)) i) ⌝ }
 {
     if tag_byte == 0 {
         return TagRead::Tag(tag_data(tag_byte, below));
     }
     match prefix_at(prefixes, i) {
         Prefix::Lent(before) => TagRead::Tag(tag_data(tag_byte, before.combine(below))),
-        Prefix::Missing => TagRead::NoPrefix,
+        Prefix::Missing => TagRead::Refused(Refusal::NoPrefix),
     }
 }
 
 // The tag at an index, with the sums before it.
 pub fn compute_tag_monoid(scene: &[u32], tag_base: u32, prefixes: &[u32], ix: u64) -> TagRead
-    ensures { λ r. ⌜ r ≡ tagOf (now (scene .entry)) «tag_base» (now (prefixes .entry)) ix ⌝ }
+    ensures { λ r. ⌜ told (tagRead r) ≡ told (tagOf (now (scene .entry)) «tag_base» (now (prefixes .entry)) ix) ⌝ }
 {
     match word_at(scene, tag_base as u64 + ix / 4) {
         Word::At(word) => {
@@ -155,7 +155,7 @@ pub fn compute_tag_monoid(scene: &[u32], tag_base: u32, prefixes: &[u32], ix: u6
                 ix / 4,
             )
         }
-        Word::Outside => TagRead::NoWord,
+        Word::Outside => TagRead::Refused(Refusal::Outside),
     }
 }
 
@@ -177,7 +177,7 @@ fn smaller(a: usize, b: usize) -> usize
 
 // Fills the prefixes of the tag words: each the sums over the words before its own.
 pub fn scan(scene: &[u32], tag_base: u32, prefixes: &mut [u32]) -> Scanned
-    ensures { λ r. ⌜ told r (now (prefixes .exit)) ≡ scanOf (now (scene .entry)) «tag_base» (now (prefixes .entry)) ⌝ }
+    ensures { λ r. ⌜ scanTold r (now (prefixes .exit)) ≡ scanOf (now (scene .entry)) «tag_base» (now (prefixes .entry)) ⌝ }
 {
     let base = tag_base as usize;
     if base > scene.len() {

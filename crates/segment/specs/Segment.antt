@@ -10,10 +10,9 @@ use Rattle.spiral.specs.Util.{newOf, addOf, subOf, mulOf, negOf, normalizeOf, l
 use Rattle.spiral.specs.Euler.{tangentThresh}
 use Rattle.spiral.specs.declared.util.Vec2.{Vec2}
 use Rattle.drawing.specs.Sheet.{Event}
-use Rattle.drawing.specs.Cubic.{startTangent, endTangent}
+use Rattle.drawing.specs.Cubic.{point, startTangent, endTangent}
 use Rattle.drawing.specs.Cap.{capEvents}
 use Rattle.drawing.specs.Join.{joinEvents}
-use Rattle.curve.specs.Fit.{point}
 use Rattle.curve.specs.Curve.{eulerEvents}
 use Rattle.segment.specs.declared.Neighbor.{Neighbor}
 use Rattle.segment.specs.declared.Shape.{Shape}
@@ -23,15 +22,12 @@ use Rattle.segment.specs.declared.Edges.{Edges}
 
 -- ---- the next segment, as the one before it sees it
 
-abbrev startOf : List Vec2 → Vec2
-startOf ps = startTangent (point ps 0) (point ps 1) (point ps 2) (point ps 3)
-
 -- where it ends its subpath, only a line is joined to, and its tangent is its chord
 unfoldable pub neighborOf : ℕ → List Vec2 → Neighbor
 neighborOf tag ps =
     cond (eqb (tag / 0x04 % 2) 1)
     (record { «do_join» = eqb (tag % 4) 1; tangent = subOf (point ps 3) (point ps 0) })
-    (record { «do_join» = true; tangent = startOf ps })
+    (record { «do_join» = true; tangent = startTangent ps })
 
 -- ---- tangents and normals
 
@@ -45,8 +41,8 @@ steadyOf v = cond (lt (lengthSquaredOf v) (tangentThresh ⊗ tangentThresh)) (ne
 unfoldable pub tangentsOf : List Vec2 → Vec2 → Tangents
 tangentsOf ps next =
     record {
-      start = steadyOf (startOf ps);
-      prev = steadyOf (endTangent (point ps 0) (point ps 1) (point ps 2) (point ps 3));
+      start = steadyOf (startTangent ps);
+      prev = steadyOf (endTangent ps);
       next = steadyOf next;
     }
 

@@ -55,7 +55,7 @@ pub fn neighbor_of(tag_byte: u8, cubic: [Vec2; 4]) -> Neighbor
             tangent: chord,
         };
     }
-    let tangent = cubic_start_tangent(cubic[0], cubic[1], cubic[2], cubic[3]);
+    let tangent = cubic_start_tangent(cubic);
     Neighbor {
         do_join: true,
         tangent,
@@ -81,12 +81,8 @@ fn steady(v: Vec2) -> Vec2
 fn tangents_of(cubic: [Vec2; 4], next: Vec2) -> Tangents
     ensures { λ r. ⌜ r ≡ tangentsOf cubic next ⌝ }
 {
-    let p0 = cubic[0];
-    let p1 = cubic[1];
-    let p2 = cubic[2];
-    let p3 = cubic[3];
-    let start = steady(cubic_start_tangent(p0, p1, p2, p3));
-    let prev = steady(cubic_end_tangent(p0, p1, p2, p3));
+    let start = steady(cubic_start_tangent(cubic));
+    let prev = steady(cubic_end_tangent(cubic));
     let next = steady(next);
     Tangents { start, prev, next }
 }

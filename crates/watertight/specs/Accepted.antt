@@ -11,20 +11,23 @@ use lib.Dec.{ltb, lt→ltb}
 use lib.ListN.{length, take, drop, length-append, length-set}
 use lib.Seq.{take-at, drop-at, drop-drop}
 use lib.Ieee.Bits.{is-true}
+use Rattle.refusals.specs.Refusals.{numberOf, found}
+use Rattle.refusals.specs.Laws.{number-some}
+use Rattle.refusals.specs.declared.Refusal.the-variants.{BadBase}
 use Rattle.drawing.specs.Sheet.{Event, line, noCount, noJoin}
 use Rattle.drawing.specs.Stands.{recordsOf}
-use Rattle.flatten.specs.Tag.{found, _>>=_}
+use Rattle.flatten.specs.Tag.{_>>=_}
 use Rattle.flatten.specs.Step.{Stepped, stepOf}
 use Rattle.flatten.specs.Boxes.{changedAt}
-use Rattle.flatten.specs.Call.{startAt, firstTurn, startOf, State, taken, next, after, answerFor, answerOf, callOf}
+use Rattle.flatten.specs.Call.{startAt, firstTurn, startOf, State, taken, next, after, answerFor, answerOf, said, toldOf, callOf}
 use Rattle.flatten.specs.CallLaws.{moves, at-rest}
 use Rattle.flatten.specs.declared.call.Stop.{Stop}
 use Rattle.flatten.specs.declared.call.Stop.the-variants as stop
-use Rattle.flatten.specs.declared.call.Answer.the-variants.{Lines}
+use Rattle.flatten.specs.declared.call.Told.{Told}
 use Rattle.flatten.specs.declared.tag.Head.{Head}
 use Rattle.watertight.specs.Balance.{AllLines}
 use Rattle.watertight.specs.Fill.{Call, Accepted, outcome, tags, readHead, readEvents, headOr, eventsOr, headOf, drawnAt, countBefore}
-use Rattle.watertight.specs.Steps.{Halts, Goes, turns}
+use Rattle.watertight.specs.Steps.{not-going, Halts, Goes, turns}
 
 -- ---- lists
 -- behind W the words are as they were: R is stored there
@@ -155,7 +158,7 @@ module _ (c : Call) where
   starts-at = go (ltb (length (c .scene)) (c .layout .«tag_base») || ltb (length (c .scene)) (c .layout .«data_base»))
     where
       go : (b : Bool) → Stands-at 0 (record { turn = startAt b (c .layout); boxes = c .boxes; lines = c .lines })
-      go true = inr (record { stop = λ (e : stop.BadBase ≡ stop.Going). let z : _≡_ {A = ℕ} 0 1 = cc in omega arith; left = refl })
+      go true = inr (record { stop = not-going BadBase; left = refl })
       go false =
           inl (record {
             left = omega arith;
@@ -186,15 +189,10 @@ module _ (c : Call) where
     all-tags (suc k) l = then k (after k (c .layout) (c .scene) (c .prefixes) first) l (all-tags k (omega arith))
 
 -- ---- an accepted call
-lines-said : (s : Stop) (tag count n : ℕ) → answerFor s tag count ≡ Lines n → (s ≡ stop.Going) × (n ≡ count)
-lines-said stop.Going tag count n e = (refl, cc)
-lines-said stop.BadBase tag count n e = let z : _≡_ {A = ℕ} 0 1 = cc in absurd (omega arith)
-lines-said stop.Outside tag count n e = let z : _≡_ {A = ℕ} 0 1 = cc in absurd (omega arith)
-lines-said stop.NoPrefix tag count n e = let z : _≡_ {A = ℕ} 0 1 = cc in absurd (omega arith)
-lines-said stop.NoBox tag count n e = let z : _≡_ {A = ℕ} 0 1 = cc in absurd (omega arith)
-lines-said stop.NotNumber tag count n e = let z : _≡_ {A = ℕ} 0 1 = cc in absurd (omega arith)
-lines-said stop.NoRoom tag count n e = let z : _≡_ {A = ℕ} 0 1 = cc in absurd (omega arith)
-lines-said stop.NoJoin tag count n e = let z : _≡_ {A = ℕ} 0 1 = cc in absurd (omega arith)
+lines-said : (s : Stop) (tag count n : ℕ) → toldOf (answerFor s tag count) ≡ said 0 0 n → (s ≡ stop.Going) × (n ≡ count)
+unfolding toldOf
+lines-said stop.Going tag count n e = (refl, sym (ap (λ (t : Told). t .count) e))
+lines-said (stop.Refused why) tag count n e = absurd (number-some why (ap (λ (t : Told). t .number) e))
 
 -- what it leaves: each of its tags is sound, and its lines are the records of all tags in turn, and behind them the words as lent
 pub record Done (c : Call) (count : ℕ) : Type 0 where
@@ -202,7 +200,7 @@ pub record Done (c : Call) (count : ℕ) : Type 0 where
   pub counted : count ≡ countBefore c (tags c)
   pub lines : outcome c .lines ≡ recordsBefore c (tags c) ++ drop (count * 6) (c .lines)
 
-done-at : (c : Call) (n : ℕ) (s : State) → Stands-at c (tags c) s → answerOf (s .turn) ≡ Lines n
+done-at : (c : Call) (n : ℕ) (s : State) → Stands-at c (tags c) s → toldOf (answerOf (s .turn)) ≡ said 0 0 n
     → ((i : ℕ) → i < tags c → Sound c i) × (n ≡ countBefore c (tags c)) × (s .lines ≡ recordsBefore c (tags c) ++ drop (n * 6) (c .lines))
 unfolding answerOf
 done-at c n s (inl w) e =

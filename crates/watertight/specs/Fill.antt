@@ -7,15 +7,15 @@ use lib.Dec.{T, eqb}
 use lib.ListN.{length, take, drop}
 use Rattle.spiral.specs.Util.{eqOf}
 use Rattle.spiral.specs.declared.util.Vec2.{Vec2}
+use Rattle.refusals.specs.Refusals.{Read, found, refused}
 use Rattle.drawing.specs.Sheet.{Event}
 use Rattle.curve.specs.Chain.{written}
 use Rattle.scene.specs.Tags.{sums, tagData}
 use Rattle.scene.specs.Reading.{wide, pointWords, pointAt, floatsAt}
-use Rattle.flatten.specs.Tag.{Read, found, refused, _>>=_, headAt, eventsAt, isStroke}
-use Rattle.flatten.specs.Call.{Outcome, callOf}
+use Rattle.flatten.specs.Tag.{_>>=_, headAt, eventsAt, isStroke}
+use Rattle.flatten.specs.Call.{Outcome, said, callOf}
 use Rattle.flatten.specs.declared.boxes.PathBox.{PathBox}
 use Rattle.flatten.specs.declared.call.Layout.{Layout}
-use Rattle.flatten.specs.declared.call.Answer.the-variants.{Lines}
 use Rattle.flatten.specs.declared.tag.Head.{Head}
 use Rattle.watertight.specs.Count.{among}
 
@@ -31,11 +31,11 @@ pub record Call : Type 0 where
 abbrev pub outcome : Call → Outcome
 outcome c = callOf (c .layout) (c .scene) (c .prefixes) (c .boxes) (c .lines)
 
--- its workgroups are a u32, as the layout's type has it
+-- the answer is number 0 and a count; its workgroups are a u32, as the layout's type has it
 pub record Accepted (c : Call) : Type 0 where
   pub u32 : c .layout .«n_wg» < 2 ^ 32
   pub count : ℕ
-  pub answer : outcome c .answer ≡ Lines count
+  pub answer : outcome c .answer ≡ said 0 0 count
 
 -- 256 tags to a workgroup
 abbrev pub tags : Call → ℕ
@@ -52,11 +52,11 @@ readEvents c i h = eventsAt (c .layout) (c .scene) (c .prefixes) i h
 -- what was found; a refused read, which no accepted call has, stands for a tag that draws nothing
 unfoldable pub headOr : Read Head → Head
 headOr (found h) = h
-headOr (refused s) = record { tag = tagData 0 (sums 0 0 0 0); flags = 0 }
+headOr (refused why) = record { tag = tagData 0 (sums 0 0 0 0); flags = 0 }
 
 unfoldable pub eventsOr : Read (List Event) → List Event
 eventsOr (found es) = es
-eventsOr (refused s) = []
+eventsOr (refused why) = []
 
 -- the tag with its style's flags
 unfoldable pub headOf : Call → ℕ → Head

@@ -15,7 +15,7 @@ use Rattle.laws.specs.Binary32.{whole}
 use Rattle.spiral.specs.Points.{FitsPoint}
 use Rattle.spiral.specs.declared.util.Vec2.{Vec2}
 use Rattle.drawing.specs.Sheet.{Event}
-use Rattle.curve.specs.Fit.{point}
+use Rattle.drawing.specs.Cubic.{point}
 use Rattle.curve.specs.Chain.{Chain, written, fill-chain}
 use Rattle.curve.specs.Bounds.{lines-at-most}
 use Rattle.segment.specs.Segment.{fillEvents, shapeEvents}
@@ -23,7 +23,8 @@ use Rattle.scene.specs.Reading.{f32Point, i16Of, i16Point, wide, pointWords, po
 use Rattle.segment.specs.declared.Shape.the-variants.{Fill}
 use Rattle.scene.specs.declared.reading.SegmentRead.{SegmentRead}
 use Rattle.scene.specs.declared.reading.TransformRead.{TransformRead}
-use Rattle.flatten.specs.Tag.{found, inside, _>>=_, eventsBy, eventsAt, shapeAt, isStroke}
+use Rattle.refusals.specs.Refusals.{found}
+use Rattle.flatten.specs.Tag.{inside, _>>=_, eventsBy, eventsAt, shapeAt, isStroke}
 use Rattle.flatten.specs.declared.call.Layout.{Layout}
 use Rattle.flatten.specs.declared.tag.Head.{Head}
 use Rattle.watertight.specs.Fill.{Call, readEvents, headOf, typeOf, pointOf, firstOf, lastOf, transformWords, writtenBy}

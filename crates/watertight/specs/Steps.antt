@@ -7,6 +7,9 @@ use mathlib.Core.List.{List, [], _∷_}
 use native.Mathlib.Omega.{arith}
 use lib.ListN.{length}
 use lib.Seq.{sets}
+use Rattle.refusals.specs.Refusals.{Read, found, refused}
+use Rattle.refusals.specs.declared.Refusal.{Refusal}
+use Rattle.refusals.specs.declared.Refusal.the-variants.{NotNumber, NoRoom, NoJoin}
 use Rattle.spiral.specs.declared.util.Vec2.{Vec2}
 use Rattle.spiral.specs.Util.{hasNan}
 use Rattle.drawing.specs.Sheet.{Event, line, noCount, noJoin, Sheet, sheet, emptyBox, recordOf, hasRoom, boxWith, stored, drawOn, draw, drawAll, isStopped, countOf}
@@ -15,12 +18,10 @@ use Rattle.drawing.specs.Stands.{Stands, stands}
 use Rattle.drawing.specs.declared.line.Pen.{Pen}
 use Rattle.drawing.specs.declared.line.Drawn.{Drawn}
 use Rattle.drawing.specs.declared.line.Drawn.the-variants as drawn
-use Rattle.flatten.specs.Tag.{Read, found, refused, headAt, eventsAt}
-use Rattle.flatten.specs.Step.{endOf, ended, drawnOf, turnOf, refusedAt, Stepped, behind, stepFrom, stepOf}
-use Rattle.flatten.specs.Refusals.{Early, outside, no-prefix, no-box, head-early, events-early}
+use Rattle.flatten.specs.Tag.{headAt, eventsAt}
+use Rattle.flatten.specs.Step.{drawnOf, turnOf, refusedAt, Stepped, behind, stepFrom, stepOf}
 use Rattle.flatten.specs.declared.call.Layout.{Layout}
 use Rattle.flatten.specs.declared.call.Turn.{Turn}
-use Rattle.flatten.specs.declared.call.Stop.{Stop}
 use Rattle.flatten.specs.declared.call.Stop.the-variants as stop
 use Rattle.flatten.specs.declared.tag.Head.{Head}
 use Rattle.watertight.specs.Balance.{AllLines}
@@ -40,8 +41,8 @@ line-whole : (path : ℕ) (p q : Vec2) (es : List Event) (ws : List ℕ) (pen pe
     → ((ws : List ℕ) (pen : Pen) → drawAll path (sheet ws (drawn.On pen)) es .drawn ≡ drawn.On pen' → Whole es pen pen')
     → drawAll path (stored t u path ws pen p q) es .drawn ≡ drawn.On pen' → Whole (line p q ∷ es) pen pen'
 unfolding stored isStopped AllLines
-line-whole path p q es ws pen pen' true u rest e = absurd (stopped path es ws (drawn.NotNumber (pen .count)) pen' refl e)
-line-whole path p q es ws pen pen' false false rest e = absurd (stopped path es ws (drawn.NoRoom (pen .count)) pen' refl e)
+line-whole path p q es ws pen pen' true u rest e = absurd (stopped path es ws (drawn.Stopped NotNumber (pen .count)) pen' refl e)
+line-whole path p q es ws pen pen' false false rest e = absurd (stopped path es ws (drawn.Stopped NoRoom (pen .count)) pen' refl e)
 line-whole path p q es ws pen pen' false true rest e =
     let w = rest (sets ws (pen .count * 6) (recordOf path p q)) (record { count = pen .count + 1; bbox = boxWith (boxWith (pen .bbox) p) q }) e in
     (w .0, omega (arith, w .1))
@@ -51,16 +52,13 @@ whole : (path : ℕ) (es : List Event) (ws : List ℕ) (pen pen' : Pen) → draw
 unfolding drawAll draw drawOn AllLines isStopped
 whole path [] ws pen pen' e = (tt, let k : pen ≡ pen' = cc in omega (arith, ap (λ (p : Pen). p .count) k))
 whole path (line p q ∷ es) ws pen pen' e = line-whole path p q es ws pen pen' (hasNan p || hasNan q) (hasRoom ws (pen .count)) (λ ws pen. whole path es ws pen pen') e
-whole path (noCount ∷ es) ws pen pen' e = absurd (stopped path es ws (drawn.NotNumber (pen .count)) pen' refl e)
-whole path (noJoin ∷ es) ws pen pen' e = absurd (stopped path es ws (drawn.NoJoin (pen .count)) pen' refl e)
+whole path (noCount ∷ es) ws pen pen' e = absurd (stopped path es ws (drawn.Stopped NotNumber (pen .count)) pen' refl e)
+whole path (noJoin ∷ es) ws pen pen' e = absurd (stopped path es ws (drawn.Stopped NoJoin (pen .count)) pen' refl e)
 
 -- ---- one tag
 
--- a read that is refused has a reason
-not-going : {A : Type 0} {s : Stop} → Early {A = A} (refused s) → s ≡ stop.Going → ⊥
-not-going outside e = let z : _≡_ {A = ℕ} 0 1 = cc in omega arith
-not-going no-prefix e = let z : _≡_ {A = ℕ} 0 1 = cc in omega arith
-not-going no-box e = let z : _≡_ {A = ℕ} 0 1 = cc in omega arith
+pub not-going : (why : Refusal) → stop.Refused why ≡ stop.Going → ⊥
+not-going why e = let z : _≡_ {A = ℕ} 0 1 = cc in omega arith
 
 pub record Halts (t : Turn) : Type 0 where
   pub stop : t .stop ≡ stop.Going → ⊥
@@ -85,7 +83,7 @@ module _ (layout : Layout) (scene prefixes ws : List ℕ) (n : ℕ) (t : Turn) w
 
   drawn-turns : (h : Head) (es : List Event) → headAt layout scene prefixes n (t .tag) ≡ found h → eventsAt layout scene prefixes (t .tag) h ≡ found es
       → Turns (behind t h (drawnOf (h .tag .monoid .«path_ix») (t .count) ws (found es)))
-  unfolding drawnOf endOf turnOf
+  unfolding drawnOf turnOf
   drawn-turns h es e k = go (s .drawn) refl
     where
       path : ℕ
@@ -97,7 +95,7 @@ module _ (layout : Layout) (scene prefixes ws : List ℕ) (n : ℕ) (t : Turn) w
       s : Sheet
       s = drawAll path (sheet ws (drawn.On pen)) es
 
-      go : (d : Drawn) → s .drawn ≡ d → Turns (behind t h (ended (endOf d) (s .words)))
+      go : (d : Drawn) → s .drawn ≡ d → Turns (behind t h (sheet (s .words) d))
       go (drawn.On pen') is =
           let w = whole path es ws pen pen' is in
           inl (record {
@@ -112,21 +110,19 @@ module _ (layout : Layout) (scene prefixes ws : List ℕ) (n : ℕ) (t : Turn) w
             count = w .1;
             stands = subst (λ (d : Drawn). Stands path es ws (t .count) (s .words) (countOf d)) is (stands path es ws (drawn.On pen));
           })
-      go (drawn.NotNumber m) is = inr (record { stop = λ (e : stop.NotNumber ≡ stop.Going). let z : _≡_ {A = ℕ} 0 1 = cc in omega arith; left = refl })
-      go (drawn.NoRoom m) is = inr (record { stop = λ (e : stop.NoRoom ≡ stop.Going). let z : _≡_ {A = ℕ} 0 1 = cc in omega arith; left = refl })
-      go (drawn.NoJoin m) is = inr (record { stop = λ (e : stop.NoJoin ≡ stop.Going). let z : _≡_ {A = ℕ} 0 1 = cc in omega arith; left = refl })
+      go (drawn.Stopped why m) is = inr (record { stop = not-going why; left = refl })
 
-  events-turns : (h : Head) → headAt layout scene prefixes n (t .tag) ≡ found h → (r : Read (List Event)) → Early r → eventsAt layout scene prefixes (t .tag) h ≡ r
+  events-turns : (h : Head) → headAt layout scene prefixes n (t .tag) ≡ found h → (r : Read (List Event)) → eventsAt layout scene prefixes (t .tag) h ≡ r
       → Turns (behind t h (drawnOf (h .tag .monoid .«path_ix») (t .count) ws r))
   unfolding drawnOf turnOf
-  events-turns h e (found es) early k = drawn-turns h es e k
-  events-turns h e (refused s) early k = inr (record { stop = not-going early; left = refl })
+  events-turns h e (found es) k = drawn-turns h es e k
+  events-turns h e (refused why) k = inr (record { stop = not-going why; left = refl })
 
-  head-turns : (r : Read Head) → Early r → headAt layout scene prefixes n (t .tag) ≡ r → Turns (stepFrom r layout scene prefixes ws t)
+  head-turns : (r : Read Head) → headAt layout scene prefixes n (t .tag) ≡ r → Turns (stepFrom r layout scene prefixes ws t)
   unfolding stepFrom refusedAt
-  head-turns (found h) early e = events-turns h e (eventsAt layout scene prefixes (t .tag) h) (events-early layout scene prefixes (t .tag) h) refl
-  head-turns (refused s) early e = inr (record { stop = not-going early; left = refl })
+  head-turns (found h) e = events-turns h e (eventsAt layout scene prefixes (t .tag) h) refl
+  head-turns (refused why) e = inr (record { stop = not-going why; left = refl })
 
   pub turns : Turns (stepOf layout scene prefixes ws n t)
   unfolding stepOf
-  turns = head-turns (headAt layout scene prefixes n (t .tag)) (head-early layout scene prefixes n (t .tag)) refl
+  turns = head-turns (headAt layout scene prefixes n (t .tag)) refl

@@ -11,7 +11,7 @@ returns c = rw (c .sub .ensures, eq-eqb _ _ (c .before .before .before .if1 .tak
 
 returns-2 : tie.Need-returns-2
 unfolding neighborOf
-returns-2 c = rw (c .cubic-start-tangent .ensures, ne-eqb _ _ (c .before .before .before .before .before .if1 .left))
+returns-2 c = rw (c .cubic-start-tangent .ensures, ne-eqb _ _ (c .before .if1 .left))
 
 pub neighbor-of-spec : {M : Type 1} → statement M
-neighbor-of-spec = tie.close (tie.spec (λ c. search needs) (λ c. search needs) (λ c κs. tt) returns (λ c. search needs) (λ c. search needs) (λ c. search needs) (λ c. search needs) (λ c κs. tt) returns-2)
+neighbor-of-spec = tie.close (tie.spec (λ c. search needs) (λ c. search needs) (λ c κs. tt) returns (λ c κs. tt) returns-2)

@@ -1,5 +1,4 @@
 -- `segment::tangents_of` meets its contract. Assumes nothing.
-use borrow.Author.Needs.{needs}
 use Rattle.segment.specs.Segment.{tangentsOf}
 use Rattle.segment.proofs.tangents_of.Statement.{statement}
 use Rattle.segment.proofs.tangents_of.Tie as tie
@@ -9,4 +8,4 @@ unfolding tangentsOf
 returns c = rw (c .steady3 .ensures, c .before .steady2 .ensures, c .before .before .cubic-end-tangent .ensures, c .before .before .before .steady .ensures, c .before .before .before .before .cubic-start-tangent .ensures)
 
 pub tangents-of-spec : {M : Type 1} → statement M
-tangents-of-spec = tie.close (tie.spec (λ c. search needs) (λ c. search needs) (λ c. search needs) (λ c. search needs) (λ c κs. tt) (λ c κs. tt) (λ c κs. tt) (λ c κs. tt) (λ c κs. tt) returns)
+tangents-of-spec = tie.close (tie.spec (λ c κs. tt) (λ c κs. tt) (λ c κs. tt) (λ c κs. tt) (λ c κs. tt) returns)

@@ -7,7 +7,7 @@ use Rattle.curve.proofs.fit.first_tip.Tie as tie
 
 returns : tie.Need-returns
 unfolding firstTip ofBits round
-returns c = rw (← c .before .before .before .before .sub .ensures, ← c .before .before .before .is-short .ensures, c .before .before .if1 .taken, c .before .cubic-at .ensures)
+returns c = rw (← c .before .before .before .before .sub .ensures, ← c .before .before .before .is-short .ensures, c .before .before .if1 .taken, c .before .eval-cubic-and-deriv .ensures)
 
 returns-2 : tie.Need-returns-2
 unfolding firstTip ofBits round

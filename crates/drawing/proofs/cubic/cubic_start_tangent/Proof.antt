@@ -1,4 +1,5 @@
 -- `drawing::cubic::cubic_start_tangent` meets its contract. Assumes nothing.
+use borrow.Author.Needs.{needs}
 use Rattle.drawing.specs.Cubic.{startTangent}
 use Rattle.drawing.proofs.cubic.cubic_start_tangent.Statement.{statement}
 use Rattle.drawing.proofs.cubic.cubic_start_tangent.Tie as tie
@@ -8,4 +9,4 @@ unfolding startTangent
 returns c = rw (c .first-long .ensures, c .before .sub3 .ensures, c .before .before .sub2 .ensures, c .before .before .before .sub .ensures)
 
 pub cubic-start-tangent-spec : {M : Type 1} → statement M
-cubic-start-tangent-spec = tie.close (tie.spec (λ c κs. tt) (λ c κs. tt) (λ c κs. tt) (λ c κs. tt) returns)
+cubic-start-tangent-spec = tie.close (tie.spec (λ c. search needs) (λ c. search needs) (λ c. search needs) (λ c. search needs) (λ c κs. tt) (λ c κs. tt) (λ c κs. tt) (λ c κs. tt) returns)

@@ -6,10 +6,10 @@ use Rattle.drawing.proofs.line.no_join.Statement.{statement}
 use Rattle.drawing.proofs.line.no_join.Tie as tie
 
 returns : tie.Need-returns
-returns c = λ path ws. stays (other-than-on _ (c .match .keys2))
+returns c = λ path ws. stays (other-than-on _ (c .before .match .keys2))
 
 returns-2 : tie.Need-returns-2
 returns-2 c = λ path ws. join-stops path ws (c .before .ink .given .1)
 
 pub no-join-spec : {M : Type 1} → statement M
-no-join-spec = tie.close (tie.spec (λ c. search needs) returns returns-2)
+no-join-spec = tie.close (tie.spec (λ c. search needs) (λ c. search needs) returns returns-2)

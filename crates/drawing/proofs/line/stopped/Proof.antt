@@ -9,7 +9,7 @@ returns : tie.Need-returns
 returns c = sym (is-on _ (c .before .match .keys1))
 
 returns-2 : tie.Need-returns-2
-returns-2 c = sym (other-than-on _ (c .match .keys2))
+returns-2 c = sym (other-than-on _ (c .before .match .keys2))
 
 pub stopped-spec : {M : Type 1} → statement M
-stopped-spec = tie.close (tie.spec (λ c. search needs) returns returns-2)
+stopped-spec = tie.close (tie.spec (λ c. search needs) (λ c. search needs) returns returns-2)

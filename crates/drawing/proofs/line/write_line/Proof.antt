@@ -13,7 +13,7 @@ use Rattle.drawing.proofs.line.write_line.Statement.{statement}
 use Rattle.drawing.proofs.line.write_line.Tie as tie
 
 returns : tie.Need-returns
-returns c = stays (other-than-on _ (c .match .keys2))
+returns c = stays (other-than-on _ (c .before .match .keys2))
 
 -- neither point has a NaN
 first : (c : tie.Else1) → hasNan (c .before .before .before .before .before .before .args .p0) ≡ false
@@ -54,4 +54,4 @@ returns-6 c =
     full (k .ink .given .1) (first (e .before .before)) (second e) (no-room (now (k .before .before .before .args .lines)) _ (c .if4 .left))
 
 pub write-line-spec : {M : Type 1} → statement M
-write-line-spec = tie.close (tie.spec (λ c. search needs) returns (λ c κs. tt) returns-2 (λ c κs. tt) returns-3 returns-4 (λ c. search needs) (λ c. search needs) (λ c κs. omega arith) (λ c κs. tt) (λ c κs. tt) (λ c. search needs) (λ c. search needs) returns-5 returns-6)
+write-line-spec = tie.close (tie.spec (λ c. search needs) (λ c. search needs) returns (λ c κs. tt) returns-2 (λ c κs. tt) returns-3 returns-4 (λ c. search needs) (λ c. search needs) (λ c κs. omega arith) (λ c κs. tt) (λ c κs. tt) (λ c. search needs) (λ c. search needs) returns-5 returns-6)

@@ -84,7 +84,7 @@ stayed = (
   ),
 )
 
-all-said : (o : Outcome) (r : Answer) (zs : List PathBox) (us ts : List ℕ) (k : ℕ) (os : List ℕ) → outcome r zs us ≡ o → (k ≡ toldOf r .number) × (os ≡ reportOf (toldOf r) ts) → reported k zs us os ≡ reportedOf o ts
+all-said : (o : Outcome) (r : Answer) (zs : List PathBox) (us ts : List ℕ) (k : ℕ) (os : List ℕ) → outcome (toldOf r) zs us ≡ o → (k ≡ toldOf r .number) × (os ≡ reportOf (toldOf r) ts) → reported k zs us os ≡ reportedOf o ts
 unfolding reportedOf
 all-said o r zs us ts k os e e₁ = (λ i. reported (e₁ .0 i) zs us (e₁ .1 i)) ∙ ap (λ (a : Outcome). reportedOf a ts) e
 
@@ -148,7 +148,7 @@ module _ {M : Type 1} (𝓤 : URA M) (H : Heap 𝓤) (A : Atoms 𝓤) (W : Given
 
   -- what `flatten_main` and `report` say
   abbrev MainSaid : Answer → List PathBox → List ℕ → Type 0
-  MainSaid r zs us = outcome r zs us ≡ callOf layout (x .now) (p .now) (y .now) (z .now)
+  MainSaid r zs us = outcome (toldOf r) zs us ≡ callOf layout (x .now) (p .now) (y .now) (z .now)
 
   abbrev ReportSaid : Answer → ℕ → List ℕ → Type 0
   ReportSaid r k os = (k ≡ toldOf r .number) × (os ≡ reportOf (toldOf r) (t .now))

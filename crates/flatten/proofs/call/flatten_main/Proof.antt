@@ -54,7 +54,7 @@ use Rattle.flatten.specs.declared.call.Layout.{Layout}
 use Rattle.flatten.specs.declared.call.Answer.{Answer}
 use Rattle.flatten.specs.Boxes.{changedAt}
 use Rattle.flatten.specs.Step.{stepped, stepOf}
-use Rattle.flatten.specs.Call.{State, taken, firstTurn, startAt, startOf, next, after, answerOf, outcome, outcomeOf, callOf}
+use Rattle.flatten.specs.Call.{State, taken, firstTurn, startAt, startOf, next, after, answerOf, toldOf, outcome, outcomeOf, callOf}
 use Rattle.flatten.specs.CallLaws.{moves, one-more, stays}
 use Rattle.flatten.proofs.Again.{LentAgain, lends-again-at, comes-back-at}
 use Rattle.flatten.proofs.boxes.PathBox as P
@@ -126,9 +126,9 @@ module _ (layout : Layout) (scene prefixes : List ℕ) (s₀ : State) where
 
 -- the last state is what the contract says
 whole-call : (layout : Layout) (scene prefixes : List ℕ) (ps : List PathBox) (ws : List ℕ) (s : State) (r : Answer) → s ≡ after (layout .«n_wg» * 256) layout scene prefixes (starting (startOf layout (length scene)) ps ws)
-    → r ≡ answerOf (s .turn) → outcome r (s .boxes) (s .lines) ≡ callOf layout scene prefixes ps ws
+    → r ≡ answerOf (s .turn) → outcome (toldOf r) (s .boxes) (s .lines) ≡ callOf layout scene prefixes ps ws
 unfolding callOf
-whole-call layout scene prefixes ps ws s r e e₁ = ap (λ (a : Answer). outcome a (s .boxes) (s .lines)) e₁ ∙ ap outcomeOf e
+whole-call layout scene prefixes ps ws s r e e₁ = ap (λ (a : Answer). outcome (toldOf a) (s .boxes) (s .lines)) e₁ ∙ ap outcomeOf e
 
 -- a turn's machine value, written out
 spelled : (r : Turn) (w : Val) → Is T.the-row r (w ∷ []) → Is T.the-row r (LL.vals T.the-type T′.the-laws r)
@@ -221,7 +221,7 @@ module _ {M : Type 1} (𝓤 : URA M) (H : Heap 𝓤) (A : Atoms 𝓤) (W : Given
   abbrev G : Type 0
   G = Going layout (x .now) (p .now) ps ws
 
-  exits : (r : Answer) (w : Val) (zs : List PathBox) (us : List ℕ) → length zs ≡ length ps → length us ≡ length ws → outcome r zs us ≡ callOf layout (x .now) (p .now) ps ws
+  exits : (r : Answer) (w : Val) (zs : List PathBox) (us : List ℕ) → length zs ≡ length ps → length us ≡ length ws → outcome (toldOf r) zs us ≡ callOf layout (x .now) (p .now) ps ws
       → ent 𝓤 (⋆ 𝓤 H A (‵ (R.the-row .own r (w ∷ [])) ∷ ‵ (flft κ₀ q₀) ∷ ‵ (flft κ₁ q₁) ∷ ‵ (flft κ₂ q₂) ∷ ‵ (flft κ₃ q₃) ∷ ‵ Scene ∷ ‵ Prefs ∷ ‵ (Boxes zs) ∷ ‵ (Lines us) ∷ [])) (Post w)
   exits r w zs us l₁ l₂ e =
       qed W (‵ (R.the-row .own r (w ∷ [])) ∷ ‵ (flft κ₀ q₀) ∷ ‵ (flft κ₁ q₁) ∷ ‵ (flft κ₂ q₂) ∷ ‵ (flft κ₃ q₃) ∷ ‵ Scene ∷ ‵ Prefs ∷ ‵ (Boxes zs) ∷ ‵ (Lines us) ∷ []) ∵

@@ -51,7 +51,7 @@ use Rattle.flatten.specs.declared.boxes.PathBox.{PathBox}
 use Rattle.flatten.specs.declared.call.Layout.{Layout}
 use Rattle.flatten.specs.declared.call.Answer.{Answer}
 use Rattle.flatten.specs.declared.call.Owned.{Owned}
-use Rattle.flatten.specs.Call.{outcome, callOf, fewOf, andBehind, ownedOf}
+use Rattle.flatten.specs.Call.{toldOf, outcome, callOf, fewOf, andBehind, ownedOf}
 use Rattle.flatten.proofs.Front.{LentFront, array-in, array-out, lends-front, front-back}
 use Rattle.flatten.proofs.boxes.PathBox as P
 use Rattle.flatten.proofs.boxes.PathBox.Laws as P′
@@ -111,7 +111,7 @@ few-fit n = by-test (ltb 64 n) refl
     by-test false e = ltb-false 64 n e
 
 all-behind : (layout : Layout) (scene prefixes : List ℕ) (ps : List PathBox) (n : ℕ) (ws : List ℕ) (r : Answer) (zs : List PathBox) (us : List ℕ)
-    → outcome r zs us ≡ callOf layout scene prefixes (take (fewOf n) ps) ws → outcome r (zs ++ dropped (fewOf n) ps) us ≡ ownedOf layout scene prefixes ps n ws
+    → outcome (toldOf r) zs us ≡ callOf layout scene prefixes (take (fewOf n) ps) ws → outcome (toldOf r) (zs ++ dropped (fewOf n) ps) us ≡ ownedOf layout scene prefixes ps n ws
 unfolding ownedOf
 all-behind layout scene prefixes ps n ws r zs us e = ap (andBehind (dropped (fewOf n) ps)) e
 
@@ -190,7 +190,7 @@ module _ {M : Type 1} (𝓤 : URA M) (H : Heap 𝓤) (A : Atoms 𝓤) (W : Given
 
   -- what `flatten_main` says
   abbrev Said : Answer → List PathBox → List ℕ → Type 0
-  Said r zs us = outcome r zs us ≡ callOf layout (x .now) (p .now) front ws
+  Said r zs us = outcome (toldOf r) zs us ≡ callOf layout (x .now) (p .now) front ws
 
   abbrev result : Answer → List PathBox → Val
   result r zs = LL.val F.the-type F′.the-laws (done-with r zs)

@@ -13,7 +13,7 @@ returns c =
 returns-2 : tie.Need-returns-2
 unfolding stepOf stepFrom
 returns-2 c =
-    (rw (← (c .before .before .before .before .read-head .ensures), c .before .before .stop .given .1, c .refused-at .ensures), none-left _ _ _ (c .refused-at .ensures))
+    (rw (← (c .before .before .before .before .read-head .ensures), c .before .before .why .given .1, c .refused-at .ensures), none-left _ _ _ (c .refused-at .ensures))
 
 pub step-spec : {M : Type 1} → statement M
 step-spec =

@@ -19,7 +19,7 @@ returns-3 c = rw (ne-eqb _ _ (c .before .before .before .before .before .if1 .le
 
 returns-4 : tie.Need-returns-4
 unfolding strokeAt strokeBy _>>=_
-returns-4 c = rw (ne-eqb _ _ (c .before .before .before .before .before .if1 .left), ← (c .before .before .before .before .wrapping-add-u64 .ensures), ← (c .before .before .before .read-neighbor .ensures), c .before .stop .given .1)
+returns-4 c = rw (ne-eqb _ _ (c .before .before .before .before .before .if1 .left), ← (c .before .before .before .before .wrapping-add-u64 .ensures), ← (c .before .before .before .read-neighbor .ensures), c .before .why .given .1)
 
 pub read-stroke-spec : {M : Type 1} → statement M
 read-stroke-spec = tie.close (tie.spec returns returns-2 (λ c κs. tt) (λ c κs. tt) (λ c. search needs) (λ c. search needs) returns-3 returns-4)

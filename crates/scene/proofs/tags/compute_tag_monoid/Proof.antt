@@ -1,6 +1,9 @@
 -- `scene::tags::compute_tag_monoid` meets its contract. Assumes nothing.
-use mathlib.Core.Path.{sym, _∙_}
+use mathlib.Core.Path.{ap, sym, _∙_}
 use borrow.Author.Needs.{needs}
+use Rattle.refusals.specs.Refusals.{told}
+use Rattle.refusals.specs.Laws.{told-once}
+use Rattle.scene.specs.Words.{wordRead}
 use Rattle.scene.specs.Tags.{tagOf, tagIn}
 use Rattle.scene.proofs.tags.compute_tag_monoid.Statement.{statement}
 use Rattle.scene.proofs.tags.compute_tag_monoid.Tie as tie
@@ -9,11 +12,11 @@ returns : tie.Need-returns
 unfolding tagOf tagIn
 returns c =
     let m = c .before .before .before .before in
-    rw (sym (m .before .before .word-at .ensures) ∙ m .word .given .1, c .with-prefix .ensures, c .before .sums-below .ensures, c .before .before .byte-at .ensures)
+    rw (sym (told-once _ _ (m .before .before .word-at .ensures)) ∙ ap wordRead (m .word .given .1), c .with-prefix .ensures, c .before .sums-below .ensures, c .before .before .byte-at .ensures)
 
 returns-2 : tie.Need-returns-2
 unfolding tagOf tagIn
-returns-2 c = rw (sym (c .before .before .word-at .ensures) ∙ c .enum-told .given .1)
+returns-2 c = rw (sym (told-once _ _ (c .before .before .word-at .ensures)) ∙ ap wordRead (c .enum-told .given .1))
 
 pub compute-tag-monoid-spec : {M : Type 1} → statement M
 compute-tag-monoid-spec =

@@ -1,6 +1,7 @@
 -- `scene::words::word_at` meets its contract. Assumes nothing.
 use borrow.Author.Needs.{needs}
 use borrow.Author.Tests.{lt-ltb, le-ltb}
+use Rattle.refusals.specs.Refusals.{told}
 use Rattle.scene.specs.Words.{wordAt}
 use Rattle.scene.proofs.words.word_at.Statement.{statement}
 use Rattle.scene.proofs.words.word_at.Tie as tie
