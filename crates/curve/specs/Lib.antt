@@ -3,4 +3,5 @@ pub mod Curve
 pub mod Walks
 pub mod Chain
 pub mod Bounds
+pub mod Infinite
 pub mod Only

@@ -2,7 +2,7 @@
 use Prim.Native.Nat.{ℕ}
 use mathlib.Core.Path.{_≡_, ap, sym, _∙_}
 use mathlib.Core.Bool.{Bool}
-use mathlib.Core.List.{List, []}
+use mathlib.Core.List.{List, [], _∷_}
 use lib.IntN.{ℤ}
 use lib.Ieee.{Float}
 use Rattle.laws.specs.Only.{Only, determined}
@@ -10,17 +10,48 @@ use Rattle.spiral.specs.declared.util.Vec2.{Vec2}
 use Rattle.drawing.specs.declared.line.IntBbox.{IntBbox}
 use Rattle.drawing.specs.declared.line.Drawn.{Drawn}
 use Rattle.drawing.specs.declared.cubic.CubicAt.{CubicAt}
-use Rattle.drawing.specs.Sheet.{Event, Sheet, lowerOf, higherOf, emptyBox, boxWith, isStopped, Drew}
+use Rattle.drawing.specs.Sheet.{Event, line, noCount, noJoin, lineThrough, Sheet, lowerOf, higherOf, emptyBox, boxWith, isStopped, Drew}
 use Rattle.drawing.specs.SheetLaws.{exact}
+use Rattle.drawing.specs.Arc.{arcOf}
+use Rattle.drawing.specs.Cap.{capEvents}
+use Rattle.drawing.specs.Join.{joinEvents}
 use Rattle.drawing.specs.Cubic.{cubicAt, startTangent, endTangent}
 
 -- every function that draws into the lent words
 pub drew-only : (path : ℕ) (ws : List ℕ) (d : Drawn) (es : List Event) → Only (λ (s : Sheet). Drew path ws d es (s .words) (s .drawn))
 drew-only path ws d es r s h k = exact h ∙ sym (exact k)
 
+module _ (path : ℕ) (ws : List ℕ) (d : Drawn) where
+  abbrev Draws : List Event → Sheet → Type 0
+  Draws es s = Drew path ws d es (s .words) (s .drawn)
+
+  pub write-line-only : (p q : Vec2) → Only (Draws (line p q ∷ []))
+  write-line-only p q = drew-only path ws d (line p q ∷ [])
+
+  pub output-line-with-transform-only : (z : List Float) (p q : Vec2) → Only (Draws (lineThrough z p q ∷ []))
+  output-line-with-transform-only z p q = drew-only path ws d (lineThrough z p q ∷ [])
+
+  pub output-two-lines-with-transform-only : (z : List Float) (p q r s : Vec2) → Only (Draws (lineThrough z p q ∷ lineThrough z r s ∷ []))
+  output-two-lines-with-transform-only z p q r s = drew-only path ws d (lineThrough z p q ∷ lineThrough z r s ∷ [])
+
+  pub flatten-arc-only : (z : List Float) (begin end center : Vec2) (angle : Float) → Only (Draws (arcOf z begin end center angle))
+  flatten-arc-only z begin end center angle = drew-only path ws d (arcOf z begin end center angle)
+
+  pub draw-cap-only : (style : ℕ) (z : List Float) (p cap0 cap1 tangent : Vec2) → Only (Draws (capEvents style z p cap0 cap1 tangent))
+  draw-cap-only style z p cap0 cap1 tangent = drew-only path ws d (capEvents style z p cap0 cap1 tangent)
+
+  pub draw-join-only : (flags : ℕ) (z : List Float) (p tp tn np nn : Vec2) → Only (Draws (joinEvents flags z p tp tn np nn))
+  draw-join-only flags z p tp tn np nn = drew-only path ws d (joinEvents flags z p tp tn np nn)
+
 -- the two that stop without them
-pub stop-only : (d : Drawn) (es : List Event) → Only (λ (r : Drawn). (path : ℕ) (ws : List ℕ) → Drew path ws d es ws r)
+stop-only : (d : Drawn) (es : List Event) → Only (λ (r : Drawn). (path : ℕ) (ws : List ℕ) → Drew path ws d es ws r)
 stop-only d es r s h k = ap (λ (t : Sheet). t .drawn) (exact (h 0 []) ∙ sym (exact (k 0 [])))
+
+pub no-count-only : (d : Drawn) → Only (λ (r : Drawn). (path : ℕ) (ws : List ℕ) → Drew path ws d (noCount ∷ []) ws r)
+no-count-only d = stop-only d (noCount ∷ [])
+
+pub no-join-only : (d : Drawn) → Only (λ (r : Drawn). (path : ℕ) (ws : List ℕ) → Drew path ws d (noJoin ∷ []) ws r)
+no-join-only d = stop-only d (noJoin ∷ [])
 
 pub stopped-only : (d : Drawn) → Only (λ (r : Bool). r ≡ isStopped d)
 stopped-only d = determined (isStopped d)

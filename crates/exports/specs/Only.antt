@@ -1,8 +1,12 @@
--- No second number satisfies the contract of the call or of the scan, nor second contents of the lists that it may write. Assumes nothing.
+-- No second number satisfies the contract of a function of the C interface, nor second contents of the lists that it may write. Assumes nothing.
 use Prim.Native.Nat.{ℕ}
 use mathlib.Core.Path.{_≡_, _∙_, sym}
 use mathlib.Core.List.{List}
-use Rattle.laws.specs.Only.{Only}
+use lib.Ieee.{Float}
+use Rattle.laws.specs.Only.{Only, determined}
+use Rattle.maths.specs.Numbers.{halfOf}
+use Rattle.maths.specs.Roots.{sqrtOf, hypotOf, cbrtOf, twoThirdsOf}
+use Rattle.maths.specs.Trig.{sinOf, cosOf, atan2Of, asinOf, acosOf}
 use Rattle.scene.specs.Tags.{scanOf}
 use Rattle.flatten.specs.declared.boxes.PathBox.{PathBox}
 use Rattle.flatten.specs.declared.call.Layout.{Layout}
@@ -17,3 +21,33 @@ hinth-flatten-only layout scene prefixes ps ws os r s p q = let e = p ∙ sym q 
 pub hinth-scan-only : (scene : List ℕ) (base : ℕ) (lent os : List ℕ)
     → Only (λ (r : ℕ × (List ℕ × List ℕ)). scanned (r .0) (r .1 .0) (r .1 .1) ≡ scannedOf (scanOf scene base lent) os)
 hinth-scan-only scene base lent os r s p q = let e = p ∙ sym q in λ i. (e i .number, (e i .prefixes, e i .out))
+
+pub hinth-sqrt-only : (x : Float) → Only (λ (r : Float). r ≡ sqrtOf x)
+hinth-sqrt-only x = determined (sqrtOf x)
+
+pub hinth-cbrt-only : (x : Float) → Only (λ (r : Float). r ≡ cbrtOf x)
+hinth-cbrt-only x = determined (cbrtOf x)
+
+pub hinth-two-thirds-only : (x : Float) → Only (λ (r : Float). r ≡ twoThirdsOf x)
+hinth-two-thirds-only x = determined (twoThirdsOf x)
+
+pub hinth-sin-only : (x : Float) → Only (λ (r : Float). r ≡ sinOf x)
+hinth-sin-only x = determined (sinOf x)
+
+pub hinth-cos-only : (x : Float) → Only (λ (r : Float). r ≡ cosOf x)
+hinth-cos-only x = determined (cosOf x)
+
+pub hinth-asin-only : (x : Float) → Only (λ (r : Float). r ≡ asinOf x)
+hinth-asin-only x = determined (asinOf x)
+
+pub hinth-acos-only : (x : Float) → Only (λ (r : Float). r ≡ acosOf x)
+hinth-acos-only x = determined (acosOf x)
+
+pub hinth-hypot-only : (x y : Float) → Only (λ (r : Float). r ≡ hypotOf x y)
+hinth-hypot-only x y = determined (hypotOf x y)
+
+pub hinth-atan2-only : (y x : Float) → Only (λ (r : Float). r ≡ atan2Of y x)
+hinth-atan2-only y x = determined (atan2Of y x)
+
+pub hinth-half-only : (word : ℕ) → Only (λ (r : Float). r ≡ halfOf word)
+hinth-half-only word = determined (halfOf word)

@@ -5,19 +5,18 @@ use mathlib.Core.List.{List}
 use native.Mathlib.Omega.{arith}
 use Rattle.refusals.specs.Refusals.{found}
 use Rattle.refusals.specs.declared.Refusal.{Refusal}
-use Rattle.drawing.specs.Sheet.{Event, Sheet, sheet, emptyBox, drawAll, Drew}
+use Rattle.drawing.specs.Sheet.{Event, Sheet, sheet, Drew}
 use Rattle.drawing.specs.SheetLaws.{exact}
-use Rattle.drawing.specs.declared.line.IntBbox.{IntBbox}
+use Rattle.drawing.specs.declared.line.Pen.{Pen}
 use Rattle.drawing.specs.declared.line.Drawn.{Drawn}
 use Rattle.drawing.specs.declared.line.Drawn.the-variants.{On, Stopped}
 use Rattle.flatten.specs.Step.{drawnOf, turnOf, refusedAt, stepped, behind}
 use Rattle.flatten.specs.declared.call.Turn.{Turn}
 use Rattle.flatten.specs.declared.tag.Head.{Head}
 
--- what was drawn with a box of its own
-pub drew-ended : {path count : ℕ} {ws ws' : List ℕ} {d : Drawn} {es : List Event} {b : IntBbox} → b ≡ emptyBox → Drew path ws (On (record { count = count; bbox = b })) es ws' d → sheet ws' d ≡ drawnOf path count ws (found es)
+pub drew-found : {path : ℕ} {pen : Pen} {ws ws' : List ℕ} {d : Drawn} {es : List Event} → Drew path ws (On pen) es ws' d → sheet ws' d ≡ drawnOf path pen ws (found es)
 unfolding drawnOf
-drew-ended {path} {count} {ws} {es = es} e h = exact h ∙ ap (λ (b : IntBbox). drawAll path (sheet ws (On (record { count = count; bbox = b }))) es) e
+drew-found h = exact h
 
 pub went : (t : Turn) (h : Head) (d : Drawn) (ws : List ℕ) (s : Sheet) → sheet ws d ≡ s → stepped (turnOf t h d) ws ≡ behind t h s
 went t h d ws s k = ap (behind t h) k

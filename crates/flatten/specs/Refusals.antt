@@ -11,7 +11,7 @@ use Rattle.refusals.specs.Refusals.{numberOf, Read, found, refused}
 use Rattle.refusals.specs.declared.Refusal.the-variants.{Outside, NoPrefix, NoBox}
 use Rattle.spiral.specs.declared.util.Vec2.{Vec2}
 use Rattle.spiral.specs.Util.{hasNan}
-use Rattle.drawing.specs.Sheet.{Event, line, noCount, noJoin, Sheet, sheet, emptyBox, hasRoom, stored, drawOn, draw, drawAll}
+use Rattle.drawing.specs.Sheet.{Event, line, noCount, noJoin, Sheet, sheet, hasRoom, stored, drawOn, draw, drawAll}
 use Rattle.drawing.specs.declared.line.Pen.{Pen}
 use Rattle.drawing.specs.declared.line.Drawn.{Drawn}
 use Rattle.drawing.specs.declared.line.Drawn.the-variants.{On, Stopped}
@@ -22,7 +22,7 @@ use Rattle.scene.specs.declared.tags.PathTagData.{PathTagData}
 use Rattle.segment.specs.Segment.{neighborOf, shapeEvents}
 use Rattle.segment.specs.declared.Shape.the-variants.{Nothing, Fill, StartCap, Stroke}
 use Rattle.flatten.specs.Tag.{_>>=_, inside, tagAt, pointsAt, transformAt, isPath, boxed, headAt, neighborAt, strokeBy, strokeAt, isStroke, shapeAt, eventsBy, eventsAt}
-use Rattle.flatten.specs.Step.{drawnOf, turnOf, refusedAt, behind, stepFrom, stepOf}
+use Rattle.flatten.specs.Step.{drawnOf, freshPen, turnOf, refusedAt, behind, stepFrom, stepOf}
 use Rattle.flatten.specs.Call.{firstTurn, startAt, startOf, State, taken, after, answerFor, answerOf, toldOf, callOf}
 use Rattle.flatten.specs.CallLaws.{carried}
 use Rattle.flatten.specs.Stands.{none, Stored, call-stands}
@@ -126,10 +126,10 @@ unfolding NotBase turnOf answerOf toldOf
 turn-not-one t h (On pen) k = λ e. omega arith
 turn-not-one t h (Stopped why n) k = k
 
-drawing-not-one : (t : Turn) (h : Head) (ws : List ℕ) (path : ℕ) {r : Read (List Event)} → Early r → NotOne (behind t h (drawnOf path (t .count) ws r) .turn)
+drawing-not-one : (t : Turn) (h : Head) (ws : List ℕ) (path : ℕ) {r : Read (List Event)} → Early r → NotOne (behind t h (drawnOf path (freshPen t) ws r) .turn)
 unfolding NotBase drawnOf turnOf answerOf toldOf numberOf
 drawing-not-one t h ws path (read es) =
-    let s = sheet ws (On (record { count = t .count; bbox = emptyBox })) in
+    let s = sheet ws (On (freshPen t)) in
     turn-not-one t h (drawAll path s es .drawn) (all-not-base path s es tt)
 drawing-not-one t h ws path outside = λ e. omega arith
 drawing-not-one t h ws path no-prefix = λ e. omega arith

@@ -12,7 +12,7 @@ use Rattle.drawing.specs.Stands.{recordsOf, Stands, stands}
 use Rattle.drawing.specs.declared.line.Drawn.{Drawn}
 use Rattle.drawing.specs.declared.line.Drawn.the-variants as drawn
 use Rattle.flatten.specs.Tag.{eventsAt, headAt}
-use Rattle.flatten.specs.Step.{drawnOf, turnOf, refusedAt, behind, stepFrom, stepOf}
+use Rattle.flatten.specs.Step.{drawnOf, freshPen, turnOf, refusedAt, behind, stepFrom, stepOf}
 use Rattle.flatten.specs.Call.{State, taken, after}
 use Rattle.flatten.specs.CallLaws.{carried}
 use Rattle.flatten.specs.declared.call.Layout.{Layout}
@@ -61,11 +61,11 @@ unfolding turnOf
 end-count t h (drawn.On pen) = refl
 end-count t h (drawn.Stopped why n) = refl
 
-drawing-grows : (t : Turn) (h : Head) (ws : List ℕ) (path : ℕ) (r : Read (List Event)) → Grown ws (t .count) (behind t h (drawnOf path (t .count) ws r) .lines) (behind t h (drawnOf path (t .count) ws r) .turn .count)
+drawing-grows : (t : Turn) (h : Head) (ws : List ℕ) (path : ℕ) (r : Read (List Event)) → Grown ws (t .count) (behind t h (drawnOf path (freshPen t) ws r) .lines) (behind t h (drawnOf path (freshPen t) ws r) .turn .count)
 unfolding drawnOf turnOf
 drawing-grows t h ws path (refused why) = unchanged ws (t .count)
 drawing-grows t h ws path (found es) =
-    let d = drawn.On (record { count = t .count; bbox = emptyBox }) in
+    let d = drawn.On (freshPen t) in
     let s = drawAll path (sheet ws d) es in
     record { path = path; events = es; drew = subst (Stands path es ws (t .count) (s .words)) (end-count t h (s .drawn)) (stands path es ws d) }
 

@@ -6,6 +6,7 @@ use Rattle.refusals.specs.Refusals.{Read, found, refused}
 use Rattle.refusals.specs.declared.Refusal.{Refusal}
 use Rattle.drawing.specs.Sheet.{Event, Sheet, sheet, emptyBox, drawAll}
 use Rattle.drawing.specs.declared.line.IntBbox.{IntBbox}
+use Rattle.drawing.specs.declared.line.Pen.{Pen}
 use Rattle.drawing.specs.declared.line.Drawn.{Drawn}
 use Rattle.drawing.specs.declared.line.Drawn.the-variants.{On, Stopped}
 use Rattle.scene.specs.Tags.{bit}
@@ -16,10 +17,13 @@ use Rattle.flatten.specs.declared.call.Turn.{Turn}
 use Rattle.flatten.specs.declared.call.Stop.the-variants.{Going, Refused}
 use Rattle.flatten.specs.declared.tag.Head.{Head}
 
--- a tag draws with a box of its own, behind the lines stored before
-unfoldable pub drawnOf : ℕ → ℕ → List ℕ → Read (List Event) → Sheet
-drawnOf path count ws (found es) = drawAll path (sheet ws (On (record { count = count; bbox = emptyBox }))) es
-drawnOf path count ws (refused why) = sheet ws (Stopped why count)
+unfoldable pub drawnOf : ℕ → Pen → List ℕ → Read (List Event) → Sheet
+drawnOf path pen ws (found es) = drawAll path (sheet ws (On pen)) es
+drawnOf path pen ws (refused why) = sheet ws (Stopped why (pen .count))
+
+-- each tag draws with a box of its own, behind the lines stored before
+abbrev pub freshPen : Turn → Pen
+freshPen t = record { count = t .count; bbox = emptyBox }
 
 -- ---- where the call stands then
 
@@ -67,7 +71,7 @@ behind t h s = stepped (turnOf t h (s .drawn)) (s .words)
 
 unfoldable pub stepFrom : Read Head → Layout → List ℕ → List ℕ → List ℕ → Turn → Stepped
 stepFrom (found h) layout scene prefixes lines t =
-    behind t h (drawnOf (h .tag .monoid .«path_ix») (t .count) lines (eventsAt layout scene prefixes (t .tag) h))
+    behind t h (drawnOf (h .tag .monoid .«path_ix») (freshPen t) lines (eventsAt layout scene prefixes (t .tag) h))
 stepFrom (refused why) layout scene prefixes lines t = stepped (refusedAt t why) lines
 
 unfoldable pub stepOf : Layout → List ℕ → List ℕ → List ℕ → ℕ → Turn → Stepped

@@ -21,7 +21,6 @@ use scene::reading::read_path_segment;
 use scene::reading::read_transform;
 use segment::draw_shape;
 
-// What a tag draws starts a box of its own.
 fn draw_tag(
     layout: Layout,
     scene: &[u32],
@@ -29,13 +28,11 @@ fn draw_tag(
     lines: &mut [u32],
     ix: u64,
     head: Head,
-    count: u32,
+    pen: Pen,
 ) -> Drawn
     ensures { λ r. ⌜ sheet (now (lines .exit)) r
-        ≡ drawnOf (head .tag .monoid .«path_ix») count (now (lines .entry)) (eventsAt layout (now (scene .entry)) (now (prefixes .entry)) ix head) ⌝ }
+        ≡ drawnOf (head .tag .monoid .«path_ix») pen (now (lines .entry)) (eventsAt layout (now (scene .entry)) (now (prefixes .entry)) ix head) ⌝ }
 {
-    let bbox = IntBbox::empty();
-    let pen = Pen { count, bbox };
     let tag = head.tag;
     if tag.tag_byte % 4 == 0 {
         return Drawn::On(pen);
@@ -54,11 +51,11 @@ fn draw_tag(
                     let ink = Drawn::On(pen);
                     draw_shape(lines, ink, path, head.flags, points, z, shape)
                 }
-                ShapeRead::Refused(why) => Drawn::Stopped(why, count),
+                ShapeRead::Refused(why) => Drawn::Stopped(why, pen.count),
             };
         }
     }
-    Drawn::Stopped(Refusal::Outside, count)
+    Drawn::Stopped(Refusal::Outside, pen.count)
 }
 
 fn change_of(head: Head, bbox: IntBbox) -> Change
@@ -141,7 +138,13 @@ pub fn step(
 {
     match read_head(layout, scene, prefixes, n_boxes, t.tag) {
         HeadRead::Found(head) => {
-            let drawn = draw_tag(layout, scene, prefixes, lines, t.tag, head, t.count);
+            // Each tag starts a box of its own.
+            let fresh = IntBbox::empty();
+            let pen = Pen {
+                count: t.count,
+                bbox: fresh,
+            };
+            let drawn = draw_tag(layout, scene, prefixes, lines, t.tag, head, pen);
             turn_of(t, head, drawn)
         }
         HeadRead::Refused(why) => refused_at(t, why),

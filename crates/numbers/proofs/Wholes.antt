@@ -13,11 +13,11 @@ use lib.Ieee.Nearest.{closest}
 use lib.Ieee.Back.{round-whole, unsigned-back}
 use Rattle.laws.specs.Dyadic.{add-value}
 use Rattle.numbers.specs.Words.{signOf, signed, absOf}
-use Rattle.numbers.specs.Whole.{quot, wholeOf, wholeSigned}
+use Rattle.numbers.specs.Whole.{quot, wholeOf}
 use Rattle.numbers.proofs.Bits.{yes, no, zeroed, positive}
 use Rattle.numbers.proofs.Integers.{small-exact, uncapped}
 use Rattle.numbers.proofs.Nearest.{closest-small, round-closest, closest-large, above, below, sub-whole, lt-values, is-quot, is-quot-up}
-use Rattle.numbers.specs.WholeLaws.{quot-more, quot-same, quot-le, small, whole-large, whole-neg, whole-signed}
+use Rattle.numbers.specs.WholeLaws.{wholeSigned, quot-more, quot-same, quot-le, small, whole-large, whole-neg, whole-signed}
 
 abbrev pub limit : Float
 limit = fin false 1 (pos 23)

@@ -1,7 +1,7 @@
 -- The whole numbers next to a float. `round` rounds nothing there: see specs/WholeLaws.antt. The conversions are lib.Ieee's `toSigned 31`, `toUnsigned 32` and `ofInt binary32`. Definitions only.
-use mathlib.Core.Bool.{Bool, true, not, cond}
-use Prim.Native.Nat.{ℕ, _+_, _-_, _*_, _/_, _^_, min}
-use lib.IntN.{ℤ, pos, negℤ}
+use mathlib.Core.Bool.{Bool, not, cond}
+use Prim.Native.Nat.{ℕ, _+_, _-_, _*_, _/_}
+use lib.IntN.{pos}
 use lib.Ieee.{Float, nan, inf, fin, binary32, up, down, round, ofInt, toUnsigned}
 use Rattle.numbers.specs.declared.whole.Part.{Part}
 use Rattle.numbers.specs.Words.{signOf}
@@ -25,20 +25,3 @@ ceilOf x = wholeOf (not (signOf x)) x
 -- x truncated to 32 bits, and the float of that
 unfoldable pub partOf : Float → Part
 partOf x = record { count = toUnsigned 32 x; value = ofInt binary32 (pos (toUnsigned 32 x)) }
-
--- ---- the same as integers, brought to the nearest end of the range: of h bits and a sign, or of w bits. A NaN's is 0
-unfoldable pub wholeSigned : Bool → ℕ → Float → ℤ
-wholeSigned u h nan = pos 0
-wholeSigned u h (inf s) = cond s (negℤ (pos (2 ^ h))) (pos (2 ^ h - 1))
-wholeSigned u h (fin s m e) = cond s (negℤ (pos (min (quot u (m * up e) (down e)) (2 ^ h)))) (pos (min (quot u (m * up e) (down e)) (2 ^ h - 1)))
-
-unfoldable pub floorSigned : ℕ → Float → ℤ
-floorSigned h x = wholeSigned (signOf x) h x
-
-unfoldable pub ceilSigned : ℕ → Float → ℤ
-ceilSigned h x = wholeSigned (not (signOf x)) h x
-
-unfoldable pub ceilUnsigned : ℕ → Float → ℕ
-ceilUnsigned w nan = 0
-ceilUnsigned w (inf s) = cond s 0 (2 ^ w - 1)
-ceilUnsigned w (fin s m e) = cond s 0 (min (quot true (m * up e) (down e)) (2 ^ w - 1))

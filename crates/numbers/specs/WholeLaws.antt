@@ -18,7 +18,7 @@ use Rattle.laws.specs.Same.{either}
 use Rattle.laws.specs.Own.{fits-says, round-own}
 use Rattle.laws.specs.Neg.{neg-neg}
 use Rattle.numbers.specs.Words.{signOf}
-use Rattle.numbers.specs.Whole.{quot, wholeOf, floorOf, ceilOf, wholeSigned, floorSigned, ceilSigned, ceilUnsigned}
+use Rattle.numbers.specs.Whole.{quot, wholeOf, floorOf, ceilOf}
 
 -- ---- the quotient
 more : (n d qd r : ℕ) → qd + r ≡ n → qd < n → 0 < d → n + (d - 1) ≡ qd + d + (r - 1)
@@ -180,6 +180,23 @@ ceil-fits x = whole-fits (not (signOf x)) x
 -- ---- as an integer: nothing is left to truncate
 value-quot : (m : ℕ) (e : ℤ) (q : ℕ) → m * up e * 1 ≡ q * down e → m * up e / down e ≡ q
 value-quot m e q h = ap (λ (z : ℕ). z / down e) (sym (mul-one (m * up e)) ∙ h) ∙ mul-div-cancel q (down-pos e)
+
+-- ---- as integers: brought to the nearest end of the range: of h bits and a sign, or of w bits. A NaN's is 0
+unfoldable pub wholeSigned : Bool → ℕ → Float → ℤ
+wholeSigned u h nan = pos 0
+wholeSigned u h (inf s) = cond s (negℤ (pos (2 ^ h))) (pos (2 ^ h - 1))
+wholeSigned u h (fin s m e) = cond s (negℤ (pos (min (quot u (m * up e) (down e)) (2 ^ h)))) (pos (min (quot u (m * up e) (down e)) (2 ^ h - 1)))
+
+unfoldable pub floorSigned : ℕ → Float → ℤ
+floorSigned h x = wholeSigned (signOf x) h x
+
+unfoldable pub ceilSigned : ℕ → Float → ℤ
+ceilSigned h x = wholeSigned (not (signOf x)) h x
+
+unfoldable pub ceilUnsigned : ℕ → Float → ℕ
+ceilUnsigned w nan = 0
+ceilUnsigned w (inf s) = cond s 0 (2 ^ w - 1)
+ceilUnsigned w (fin s m e) = cond s 0 (min (quot true (m * up e) (down e)) (2 ^ w - 1))
 
 value-signed : (h : ℕ) (y : Float) (s : Bool) (q : ℕ) → HasValue y s q 1 → toSigned h y ≡ cond s (negℤ (pos (min q (2 ^ h)))) (pos (min q (2 ^ h - 1)))
 unfolding toSigned

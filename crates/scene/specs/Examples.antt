@@ -1,14 +1,12 @@
--- Worked examples, which antt computes from the definitions. Floats by their bits. Assumes nothing.
+-- A worked example, which antt computes from the definitions; those of the scope paper stand in crate `examples`. Assumes nothing.
 use Prim.Native.Nat.{ℕ, _+_}
 use mathlib.Core.Path.{_≡_, refl}
 use mathlib.Core.Bool.{false}
-use mathlib.Core.List.{List, [], _∷_, _++_, map}
+use mathlib.Core.List.{List, [], _∷_, _++_}
 use lib.ListN.{replicate}
-use lib.Ieee.{binary32, ofBits, ofInt, neg}
-use Rattle.spiral.specs.Util.{newOf}
 use Rattle.scene.specs.Words.{wordAt}
 use Rattle.scene.specs.Tags.{sums, tagSums, plus, byteAt, sumsBelow, wordSums, tagData, prefixAt, withPrefix, tagIn, tagOf, sumsBefore, prefixes, filled, scanOf}
-use Rattle.scene.specs.Reading.{i16Of, i16Point, transformOf}
+use Rattle.scene.specs.Reading.{transformOf}
 use Rattle.refusals.specs.Refusals.{Read, found}
 use Rattle.scene.specs.declared.tags.PathTagData.{PathTagData}
 
@@ -26,17 +24,7 @@ tag first ix = tagOf (sceneFrom first) 0 (scanOf (sceneFrom first) 0 (replicate 
 abbrev read : ℕ → ℕ → ℕ → Read PathTagData
 read byte transform offset = found (record { «tag_byte» = byte; monoid = sums 0 transform 0 offset })
 
--- the data offsets of the three lines are 0, 1 and 2
-pub triangle-tags : map (tag 0x20) (2 ∷ 3 ∷ 4 ∷ []) ≡ read 0x01 0 0 ∷ read 0x01 0 1 ∷ read 0x05 0 2 ∷ []
-unfolding wordAt tagSums plus byteAt sumsBelow wordSums tagData prefixAt withPrefix tagIn tagOf sumsBefore prefixes filled scanOf
-triangle-tags = refl
-
 -- with no transform before it, a line's transform index lies one below zero, and that transform's address is past 2^32 - 1
 pub no-transform : (tag 0x00 2 ≡ read 0x01 0xffffffff 0) × (transformOf (sceneFrom 0x00) 0x44 0xffffffff .found ≡ false)
 unfolding wordAt tagSums plus byteAt sumsBelow wordSums tagData prefixAt withPrefix tagIn tagOf sumsBefore prefixes filled scanOf transformOf
 no-transform = (refl, refl)
-
--- -32768 and -1
-pub i16-point : i16Point (0xffff8000 ∷ []) 0 ≡ newOf (ofBits binary32 0xc7000000) (ofBits binary32 0xbf800000)
-unfolding i16Point i16Of ofBits ofInt neg
-i16-point = refl

@@ -12,8 +12,8 @@ use Rattle.segment.specs.Segment.{neighborOf, shapeEvents}
 use Rattle.segment.specs.declared.Neighbor.{Neighbor}
 use Rattle.segment.specs.declared.Shape.{Shape}
 
-pub neighbor-only : (tag : ℕ) (ps : List Vec2) → Only (λ (r : Neighbor). r ≡ neighborOf tag ps)
-neighbor-only tag ps = determined (neighborOf tag ps)
+pub neighbor-of-only : (tag : ℕ) (ps : List Vec2) → Only (λ (r : Neighbor). r ≡ neighborOf tag ps)
+neighbor-of-only tag ps = determined (neighborOf tag ps)
 
 -- nor other words at the end
 pub draw-shape-only : (path : ℕ) (ws : List ℕ) (d : Drawn) (s : Shape) (flags : ℕ) (z : List Float) (ps : List Vec2)

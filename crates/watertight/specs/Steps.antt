@@ -12,14 +12,14 @@ use Rattle.refusals.specs.declared.Refusal.{Refusal}
 use Rattle.refusals.specs.declared.Refusal.the-variants.{NotNumber, NoRoom, NoJoin}
 use Rattle.spiral.specs.declared.util.Vec2.{Vec2}
 use Rattle.spiral.specs.Util.{hasNan}
-use Rattle.drawing.specs.Sheet.{Event, line, noCount, noJoin, Sheet, sheet, emptyBox, recordOf, hasRoom, boxWith, stored, drawOn, draw, drawAll, isStopped, countOf}
+use Rattle.drawing.specs.Sheet.{Event, line, noCount, noJoin, Sheet, sheet, recordOf, hasRoom, boxWith, stored, drawOn, draw, drawAll, isStopped, countOf}
 use Rattle.drawing.specs.SheetLaws.{absorbs}
 use Rattle.drawing.specs.Stands.{Stands, stands}
 use Rattle.drawing.specs.declared.line.Pen.{Pen}
 use Rattle.drawing.specs.declared.line.Drawn.{Drawn}
 use Rattle.drawing.specs.declared.line.Drawn.the-variants as drawn
 use Rattle.flatten.specs.Tag.{headAt, eventsAt}
-use Rattle.flatten.specs.Step.{drawnOf, turnOf, refusedAt, Stepped, behind, stepFrom, stepOf}
+use Rattle.flatten.specs.Step.{drawnOf, freshPen, turnOf, refusedAt, Stepped, behind, stepFrom, stepOf}
 use Rattle.flatten.specs.declared.call.Layout.{Layout}
 use Rattle.flatten.specs.declared.call.Turn.{Turn}
 use Rattle.flatten.specs.declared.call.Stop.the-variants as stop
@@ -82,7 +82,7 @@ module _ (layout : Layout) (scene prefixes ws : List ℕ) (n : ℕ) (t : Turn) w
   Turns o = Goes o ⊎ Halts (o .turn)
 
   drawn-turns : (h : Head) (es : List Event) → headAt layout scene prefixes n (t .tag) ≡ found h → eventsAt layout scene prefixes (t .tag) h ≡ found es
-      → Turns (behind t h (drawnOf (h .tag .monoid .«path_ix») (t .count) ws (found es)))
+      → Turns (behind t h (drawnOf (h .tag .monoid .«path_ix») (freshPen t) ws (found es)))
   unfolding drawnOf turnOf
   drawn-turns h es e k = go (s .drawn) refl
     where
@@ -90,7 +90,7 @@ module _ (layout : Layout) (scene prefixes ws : List ℕ) (n : ℕ) (t : Turn) w
       path = h .tag .monoid .«path_ix»
 
       pen : Pen
-      pen = record { count = t .count; bbox = emptyBox }
+      pen = freshPen t
 
       s : Sheet
       s = drawAll path (sheet ws (drawn.On pen)) es
@@ -113,7 +113,7 @@ module _ (layout : Layout) (scene prefixes ws : List ℕ) (n : ℕ) (t : Turn) w
       go (drawn.Stopped why m) is = inr (record { stop = not-going why; left = refl })
 
   events-turns : (h : Head) → headAt layout scene prefixes n (t .tag) ≡ found h → (r : Read (List Event)) → eventsAt layout scene prefixes (t .tag) h ≡ r
-      → Turns (behind t h (drawnOf (h .tag .monoid .«path_ix») (t .count) ws r))
+      → Turns (behind t h (drawnOf (h .tag .monoid .«path_ix») (freshPen t) ws r))
   unfolding drawnOf turnOf
   events-turns h e (found es) k = drawn-turns h es e k
   events-turns h e (refused why) k = inr (record { stop = not-going why; left = refl })

@@ -4,13 +4,13 @@ use borrow.Author.Tests.{eq-eqb, ne-eqb}
 use Rattle.drawing.specs.Sheet.{drawAll}
 use Rattle.flatten.specs.Tag.{_>>=_, eventsBy, eventsAt}
 use Rattle.flatten.specs.Step.{drawnOf}
-use Rattle.flatten.proofs.Steps.{drew-ended}
+use Rattle.flatten.proofs.Steps.{drew-found}
 use Rattle.flatten.proofs.step.draw_tag.Statement.{statement}
 use Rattle.flatten.proofs.step.draw_tag.Tie as tie
 
 returns : tie.Need-returns
 unfolding eventsAt eventsBy drawnOf drawAll
-returns c = rw (eq-eqb _ _ (c .if1 .taken), c .before .before .before .empty .ensures)
+returns c = rw (eq-eqb _ _ (c .if1 .taken))
 
 returns-2 : tie.Need-returns-2
 unfolding eventsAt eventsBy _>>=_
@@ -18,7 +18,7 @@ returns-2 c =
     let s = c .before .before .before .before .before .before .before in
     let p = s .before .before .before .before in
     rw (ne-eqb _ _ (p .before .before .before .before .if1 .left), ← (p .before .before .read-transform .ensures), p .before .if2 .taken, ← (p .read-path-segment .ensures), s .before .before .before .if3 .taken, ← (s .read-shape .ensures), c .before .before .before .before .before .shape .given .1)
-    (drew-ended (p .before .before .before .before .before .before .before .empty .ensures) (c .before .before .draw-shape .ensures))
+    (drew-found (c .before .before .draw-shape .ensures))
 
 returns-3 : tie.Need-returns-3
 unfolding eventsAt eventsBy drawnOf _>>=_
@@ -40,5 +40,5 @@ pub draw-tag-spec : {M : Type 1} → statement M
 draw-tag-spec =
     tie.close
     (tie.spec
-    (λ c κs. tt) returns (λ c κs. tt) (λ c κs. tt) (λ c κs. tt) (λ c. search needs) (λ c κs. tt) (λ c. search needs) (λ c. search needs)
+    returns (λ c κs. tt) (λ c κs. tt) (λ c κs. tt) (λ c. search needs) (λ c κs. tt) (λ c. search needs) (λ c. search needs)
     returns-2 returns-3 returns-4 returns-5)
