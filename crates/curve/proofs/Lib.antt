@@ -1,4 +1,5 @@
 pub mod Lines
 pub mod Scale
+pub mod Ranges
 pub mod Tree
 pub mod Walk

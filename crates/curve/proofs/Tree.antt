@@ -76,6 +76,7 @@ module _ (s : Side) where
     pub v : ℕ
     pub low : z ≤ k
     pub back : v * 2 ^ z ≡ u + 1
+    pub odd : v % 2 ≡ 1
     pub same : rest k d u f ≡ head (k - z) (d + z) v f
 
   even-case : (k d u : ℕ) (f : Front) → u % 2 ≡ 0 → u < 2 ^ suc k → Popped (suc k) d u 0 f
@@ -88,6 +89,7 @@ module _ (s : Side) where
         v = u + 1;
         low = omega arith;
         back = omega arith;
+        odd = omega arith;
         same =
             rest-even k d u f e
             ∙ ap (λ (es : List Event). flatten (t .ranges) ++ es)
@@ -105,6 +107,7 @@ module _ (s : Side) where
         v = r .v;
         low = omega (arith, r .low);
         back = omega (arith, w, r .back);
+        odd = r .odd;
         same = rest-odd k d u f e ∙ r .same ∙ sym (ap₂ (λ (x y : ℕ). head x y (r .v) f) a b);
       }
 
@@ -130,6 +133,7 @@ module _ (s : Side) where
         v = u + 1;
         low = omega arith;
         back = omega arith;
+        odd = omega arith;
         same = sym (head-end 0 (d + 0) (u + 1) f (omega arith));
       })
   pop (suc k) (suc b) d u f h g = go (eqb (u % 2) 0) refl (pop k b (suc d) (u / 2) f (omega arith) (omega arith))

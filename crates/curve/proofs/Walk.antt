@@ -3,7 +3,7 @@ use mathlib.Core.Path.{_≡_, refl, sym, ap, ap₂, _∙_, subst}
 use mathlib.Core.Bool.{Bool, true, false, _||_}
 use mathlib.Core.List.{List, [], _++_, flatten, append-nil}
 use Prim.Native.Nat.{ℕ, zero, suc, _+_, _-_, _*_, _/_, _%_, _^_, _≤_, _<_}
-use native.Mathlib.Nat.{mul-assoc, mul-comm, mul-le-mul-right, le-of-mul-le-mul-right, eq-of-mul-eq-mul-right, mul-div-cancel, pow-suc, one-mul}
+use native.Mathlib.Nat.{mul-assoc, mul-comm, mul-le-mul-right, le-of-mul-le-mul-right, eq-of-mul-eq-mul-right, mul-div-cancel, one-mul}
 use native.Mathlib.Omega.{arith}
 use lib.Dec.{T}
 use lib.Count.{trailingZeros}
@@ -22,6 +22,7 @@ use Rattle.curve.specs.declared.fit.Tip.{Tip}
 use Rattle.curve.specs.declared.fit.Fit.{Fit}
 use Rattle.curve.specs.declared.Side.{Side}
 use Rattle.curve.proofs.Scale.{start-is, end-is, halved, doubled, at-the-end, not-at-the-end, above-limit, at-limit, parts, parts-of}
+use Rattle.curve.proofs.Ranges.{ranges, most, halves, past}
 use Rattle.curve.proofs.Tree.{follow, rest, head, head-end, head-start, head-accepted, head-half, Popped, pop}
 
 -- the events es are what is left from range u on, which is dt long: k levels down, with d halvings left
@@ -36,9 +37,14 @@ pub record Here (s : Side) (es : List Event) (u : ℕ) (dt : Float) (f : Front) 
 pub here-start : (s : Side) (f : Front) → Here s (flatten (walk s 16 0 f .ranges)) 0 (part 65536) f
 here-start s f = record { k = 0; d = 16; sum = refl; wide = refl; within = omega arith; same = head-start s f }
 
--- the measure: what is left of the curve in 65536ths, and then how long the range is
+-- the measure: the ranges that may still be looked at, from range u on
 pub left : ℕ → Float → ℕ
-left u dt = (65536 - u * parts dt) * 65537 + parts dt
+left u dt = ranges (65536 - u * parts dt) (parts dt)
+
+-- 131,071 at the start, which is why the loop turns at most so often
+pub left-start : left 0 (part 65536) ≡ 131071
+unfolding left
+left-start = ap (λ (n : ℕ). ranges (65536 - 0 * n) n) (parts-of 16 (omega arith)) ∙ most
 
 or-left : (x y : Bool) → y ≡ false → (x || y) ≡ true → x ≡ true
 or-left true y e h = refl
@@ -152,10 +158,9 @@ module _ {s : Side} {es : List Event} {u : ℕ} {dt : Float} {f : Front} (h : He
             ap (λ (x : ℕ). p .v * x) (pow-add 2 (h .d) z ∙ mul-comm W (2 ^ z)) ∙ sym (mul-assoc (p .v) (2 ^ z) W) in
             let e2 : p .v * X ≡ (u + 1) * W = e1 ∙ ap (λ (x : ℕ). x * W) (p .back) in
             let g : (u + 1) * W ≤ 2 ^ h .k * W = mul-le-mul-right W (omega (arith, inside)) in
-            let x1 : X ≤ 2 ^ 16 = pow-mono {i = h .d + z} {j = 16} (omega (arith, h .sum, p .low)) in
-            let n1 : (u + 1) / 2 ^ z * parts (mul binary32 dt dt') ≡ p .v * X = ap₂ (λ (x y : ℕ). x * y) (next-u f) p1 in
-            let n2 : u * parts dt ≡ u * W = ap (λ (x : ℕ). u * x) width in
-            omega (arith, p1, width, e2, g, x1, n1, n2, all, pow-pos (h .d))
+            let r1 : 65536 - u * W ≡ 65536 - p .v * X + W = omega (arith, e2, g, all) in
+            rw (next-u f, p1, width, r1)
+            (past (h .k - z) (h .d + z) (p .v) W (pow-pos (h .d)) (p .odd) (omega (arith, h .sum, p .low)))
 
       module _ {to : Tip} (et : to ≡ tipAt (s .points) (add binary32 (mul binary32 w dt) dt)) where
         tip-is : to ≡ tipOf s (h .d) u
@@ -211,9 +216,6 @@ module _ {s : Side} {es : List Event} {u : ℕ} {dt : Float} {f : Front} (h : He
             unfolding left
             half-less =
                 let x = is .0 in
-                let dt' = mul binary32 dt (fin false 1 (negsuc 0)) in
-                let p1 : parts dt' ≡ 2 ^ x = ap parts half-dt ∙ parts-of x (omega (arith, is .1, deep)) in
-                let p2 : parts dt ≡ 2 ^ x * 2 = width ∙ ap (λ (n : ℕ). 2 ^ n) (is .1) ∙ pow-suc 2 x in
-                let n1 : u * 2 * parts dt' ≡ u * 2 * 2 ^ x = ap (λ (n : ℕ). u * 2 * n) p1 in
-                let n2 : u * parts dt ≡ u * (2 ^ x * 2) = ap (λ (n : ℕ). u * n) p2 in
-                omega (arith, p1, p2, n1, n2, pow-pos x)
+                let p1 : parts (mul binary32 dt (fin false 1 (negsuc 0))) ≡ 2 ^ x = ap parts half-dt ∙ parts-of x (omega (arith, is .1, deep)) in
+                let p2 : parts dt ≡ 2 ^ suc x = width ∙ ap (λ (n : ℕ). 2 ^ n) (is .1) in
+                rw (p1, p2) (halves (h .k) x u inside (omega (arith, is .1, h .sum)))

@@ -1,25 +1,34 @@
--- `curve::walk_side` meets its contract: the loop stands at a place of the tree, and what is left there comes to the same. Assumes nothing.
+-- `curve::walk_side` meets its contract: the loop stands at a place of the tree, and what is left there comes to the same.
+-- The measure is at most 131,071 at the start and falls at every turn, so there are at most as many turns. Assumes nothing.
 use mathlib.Core.Path.{sym, _∙_}
 use mathlib.Core.List.{List, flatten}
+use Prim.Native.Nat.{ℕ, _≤_, _<_}
+use native.Mathlib.Nat.{le-of-eq}
 use native.Mathlib.Omega.{arith}
 use lib.Ieee.{ofBits, round}
 use Rattle.drawing.specs.Sheet.{Event}
 use Rattle.drawing.specs.SheetLaws.{Left, begin, nothing, turn, done, halts, as-many}
 use Rattle.curve.specs.Curve.{frontOf, walk}
-use Rattle.curve.proofs.Walk.{Here, here-start, left, small, at-end, below, few-zeros, next, next-less, taken, half, half-less}
+use Rattle.curve.proofs.Walk.{Here, here-start, left, left-start, small, at-end, below, few-zeros, next, next-less, taken, half, half-less}
 use Rattle.curve.proofs.walk_side.Statement.{statement}
 use Rattle.curve.proofs.walk_side.Tie as tie
 
 abbrev Inv-loop : tie.InvT-loop
 Inv-loop lines₀ path side points so₀ last₀ lp0₀ t0-u₀ dt₀ lines so last lp0 t0-u dt =
-    (es : List Event) × Left path lines₀ so₀ (flatten (walk side 16 0 (frontOf last₀ lp0₀) .ranges)) lines so es × Here side es t0-u dt (frontOf last lp0)
+    (es : List Event)
+    × Left path lines₀ so₀ (flatten (walk side 16 0 (frontOf last₀ lp0₀) .ranges)) lines so es
+    × Here side es t0-u dt (frontOf last lp0)
+    × (left t0-u dt ≤ 131071)
 
 abbrev μ-loop : tie.MeasureT-loop
 μ-loop lines₀ path side points so₀ last₀ lp0₀ t0-u₀ dt₀ lines so last lp0 t0-u dt = left t0-u dt
 
+fewer : {a b n : ℕ} → a < b → b ≤ n → a ≤ n
+fewer h k = omega arith
+
 loop-holds : tie.Need-loop-holds Inv-loop μ-loop
 unfolding ofBits round
-loop-holds c = (_, begin, here-start _ _)
+loop-holds c = (_, begin, here-start _ _, le-of-eq left-start)
 
 returns : tie.Need-returns Inv-loop μ-loop
 unfolding ofBits
@@ -66,6 +75,7 @@ loop-again c =
       _,
       turn (i .1) (taken (i .2) w (o .if1 .left) (a .before .before .before .tip-at .ensures) (a .before .before .params-of .ensures) (a .before .accepts .ensures) (a .if3 .taken) (e .before .fit-range .ensures) (e .range-end .ensures)) (d .draw-range .ensures),
       next (i .2) w (o .if1 .left) (c .from-u322 .ensures) _,
+      fewer (loop-less c) (i .3),
     )
 
 mul-t0-u : tie.Need-mul-t0-u Inv-loop μ-loop
@@ -85,6 +95,7 @@ loop-again-2 c =
       i .0,
       i .1,
       half (i .2) (o .before .from-u32 .ensures) (o .if1 .left) (c .before .before .before .tip-at .ensures) (c .before .before .params-of .ensures) (c .before .accepts .ensures) (c .if3 .left),
+      fewer (loop-less-2 c) (i .3),
     )
 
 pub walk-side-spec : {M : Type 1} → statement M
