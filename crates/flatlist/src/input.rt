@@ -1,88 +1,122 @@
 // A sheet's words: eight lowercase hex digits each, a word a line; the last line's end may be missing.
 // Six words stand before the scene, which has at most 1,024. A word takes nine bytes, its end with it,
 // so 9,270 bytes are the most, and one more shows that a sheet is too long.
-ghost use Prim.Native.Nat.{_≤_, _<_};
+ghost use mathlib.Core.Path.{_≡_};
+ghost use Rattle.flatlist.specs.Form.{digitOf, wordsFrom, badSheet, placed, judged, sheetOf, endedOf};
 
-fn wide(b: u8) -> u32 {
-    b as u32
+// Where it is good: so many words, with zeros behind.
+pub struct Sheet {
+    pub good: bool,
+    pub count: usize,
+    pub words: [u32; 1030],
 }
 
-// The value of a hex digit, or 16 for any other byte.
-fn digit(b: u8) -> u32 {
-    match b {
-        b'0'..=b'9' => wide(b) % 16,
-        b'a'..=b'f' => wide(b) % 16 + 9,
-        _ => 16,
-    }
-}
-
-pub enum Word {
-    Is(u32),
-    Bad,
-}
-
-// The word of line k, of n bytes in all.
-fn word_of(text: &[u8; 9271], n: usize, k: usize) -> Word
-    requires { ⌜ k < 1030 ⌝ }
+fn bad_sheet() -> Sheet
+    ensures { λ r. ⌜ r ≡ badSheet ⌝ }
 {
-    if !is_ended(text, n, k) {
-        return Word::Bad;
+    let words = [0u32; 1030];
+    Sheet {
+        good: false,
+        count: 0,
+        words,
     }
-    let mut w = 0u32;
-    let mut i = 0usize;
-    while i < 8 {
-        let d = digit(text[k * 9 + i]);
-        if d > 15 {
-            return Word::Bad;
-        }
-        w = w % 0x1000_0000 * 16 + d;
-        i = i + 1;
-    }
-    Word::Is(w)
 }
 
-// Whether line k has its end, or is the last and lacks it.
-fn is_ended(text: &[u8; 9271], n: usize, k: usize) -> bool
-    requires { ⌜ k < 1030 ⌝ }
+// The value of a lowercase hex digit, or 16 for any other byte.
+fn digit(b: u8) -> u32
+    ensures { λ r. ⌜ r ≡ digitOf b ⌝ }
 {
-    let at = k * 9 + 8;
-    if at < n {
-        return text[at] == b'\n';
+    if b < b'0' {
+        return 16;
     }
-    at == n
+    if b <= b'9' {
+        return (b - b'0') as u32;
+    }
+    if b < b'a' {
+        return 16;
+    }
+    if b <= b'f' {
+        return (b - b'a') as u32 + 10;
+    }
+    16
 }
 
-// Whether the six words before the scene are there.
-pub fn read_head(text: &[u8; 9271], n: usize, head: &mut [u32; 6]) -> bool {
-    let mut k = 0usize;
-    while k < 6 {
-        let Word::Is(w) = word_of(text, n, k) else {
-            return false;
+// At the end of the text: no word is open, or one that lacks its line end.
+fn ended(mut words: [u32; 1030], count: usize, left: u32, word: u32) -> Sheet
+    ensures { λ r. ⌜ r ≡ endedOf words count left word ⌝ }
+{
+    if left == 8 {
+        return Sheet {
+            good: true,
+            count,
+            words,
         };
-        head[k] = w;
-        k = k + 1;
     }
-    true
+    if left > 0 {
+        return bad_sheet();
+    }
+    if count >= 1030 {
+        return bad_sheet();
+    }
+    words[count] = word;
+    Sheet {
+        good: true,
+        count: count + 1,
+        words,
+    }
 }
 
-// How many words the scene has: 1,025 where anything is not in the form, or has no place.
-pub fn read_scene(text: &[u8; 9271], n: usize, scene: &mut [u32]) -> usize {
-    let mut k = 0usize;
-    while k < 1024 {
-        if n <= (k + 6) * 9 {
-            return k;
+// The words of the text, where it is in the form and has not too many. `left` digits of a word are to come, and `word`
+// is the number of those before.
+fn read_words(text: &[u8]) -> Sheet
+    ensures { λ r. ⌜ r ≡ placed (wordsFrom 8 0 (now (text .entry))) ⌝ }
+{
+    let mut words = [0u32; 1030];
+    let mut count: usize = 0;
+    let mut left: u32 = 8;
+    let mut word: u32 = 0;
+    let mut i: usize = 0;
+    while i < text.len() {
+        let b = text[i];
+        i += 1;
+        if left > 0 {
+            let d = digit(b);
+            if d > 15 {
+                return bad_sheet();
+            }
+            word = word * 16 + d;
+            left -= 1;
+        } else {
+            if b != b'\n' {
+                return bad_sheet();
+            }
+            if count >= 1030 {
+                return bad_sheet();
+            }
+            words[count] = word;
+            count += 1;
+            word = 0;
+            left = 8;
         }
-        if scene.len() <= k {
-            return 1025;
-        }
-        let Word::Is(w) = word_of(text, n, k + 6) else {
-            return 1025;
-        };
-        scene[k] = w;
-        k = k + 1;
     }
-    if n <= 9270 {
-        return k;
+    ended(words, count, left, word)
+}
+
+fn judge(sheet: Sheet) -> Sheet
+    ensures { λ r. ⌜ r ≡ judged sheet ⌝ }
+{
+    if sheet.count < 6 {
+        return bad_sheet();
     }
-    1025
+    if sheet.words[5] > 16 {
+        return bad_sheet();
+    }
+    sheet
+}
+
+// The sheet of a text, which is bad exactly where docs/FLATLIST.md says `bad input`.
+pub fn read_sheet(text: &[u8]) -> Sheet
+    ensures { λ r. ⌜ r ≡ sheetOf (now (text .entry)) ⌝ }
+{
+    judge(read_words(text))
 }

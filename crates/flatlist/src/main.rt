@@ -1,5 +1,7 @@
 // Flattens the sheet on standard input and writes its lines and boxes. docs/FLATLIST.md has the form of
 // both.
+ghost use Prim.Native.Nat.{_≤_};
+
 mod input;
 mod output;
 
@@ -8,7 +10,8 @@ use flatten::call::Layout;
 use flatten::call::flatten_owned;
 use flatten::call::report;
 
-fn layout_of(head: &[u32; 6]) -> Layout {
+// The first five words.
+fn layout_of(head: &[u32; 1030]) -> Layout {
     Layout {
         n_wg: head[0],
         tag_base: head[1],
@@ -29,45 +32,40 @@ fn write_answer(number: u32, told: &[u64; 2]) {
     output::end_line();
 }
 
-// The six words before the scene, and the scene.
-fn flatten_sheet(head: &[u32; 6], scene: &[u32]) {
-    let n = head[5];
-    if n > 16 {
-        output::bad_input();
-        return;
-    }
+fn wide(w: u32) -> usize {
+    w as usize
+}
+
+// A sheet of so many words: six, and the scene behind them.
+fn flatten_sheet(words: [u32; 1030], count: usize)
+    requires { ⌜ (6 ≤ count) × (count ≤ 1030) ⌝ }
+{
+    let layout = layout_of(&words);
+    let n = wide(words[5]);
+    let scene = &words[6..count];
     let mut prefixes = [0u32; 4096];
     let mut lines = [0u32; 6000];
-    scene::tags::scan(scene, head[1], &mut prefixes);
+    scene::tags::scan(scene, layout.tag_base, &mut prefixes);
     let fresh = [PathBox::fresh(); 64];
-    let done = flatten_owned(
-        layout_of(head),
-        scene,
-        &prefixes,
-        fresh,
-        n as usize,
-        &mut lines,
-    );
+    let done = flatten_owned(layout, scene, &prefixes, fresh, n, &mut lines);
     let answer = done.answer;
     let boxes = done.boxes;
     let mut told = [0u64; 2];
     let number = report(answer, &mut told);
     write_answer(number, &told);
     output::write_lines(&lines, told[1]);
-    output::write_boxes(boxes, n as usize);
+    output::write_boxes(boxes, n);
 }
 
 fn main() {
     let mut text = [0u8; 9271];
     let n = io::read_full(0, &mut text);
-    let mut head = [0u32; 6];
-    if input::read_head(&text, n, &mut head) {
-        let mut scene = [0u32; 1024];
-        let count = input::read_scene(&text, n, &mut scene);
-        if count <= 1024 {
-            flatten_sheet(&head, &scene[..count]);
-            return;
-        }
+    let sheet = input::read_sheet(&text[..n]);
+    if !sheet.good {
+        output::bad_input();
+        return;
     }
-    output::bad_input();
+    let words = sheet.words;
+    let count = sheet.count;
+    flatten_sheet(words, count);
 }

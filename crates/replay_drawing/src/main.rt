@@ -1,81 +1,146 @@
-// Replays the list on standard input, which docs/ORACLE.md describes: a line is a call, the words
-// lent to it, its arguments, and what it answers and stores, as words of eight hex digits. Writes
-// each line whose answer is another here, and last how many lines there were and how many differ.
-mod calls;
-mod vector;
+// Replays the list on standard input, which docs/ORACLE.md describes. Here are the numbers and points of a line, and the
+// calls of `drawing` and `curve` by their numbers in the list.
+mod list;
 
+use curve::flatten_euler;
+use drawing::arc::flatten_arc;
+use drawing::cap::draw_cap;
+use drawing::join::draw_join;
 use drawing::line::Drawn;
 use drawing::line::IntBbox;
+use drawing::line::Pen;
 use lists::word;
+use spiral::util::Vec2;
 
-// The bytes of a line, its end with them.
-const LINE: usize = 351;
-
-// More lines than any list has.
-const MOST: u64 = 1000000;
-
-fn whole(line: &[u8; 351], k: usize) -> i32 {
-    maths::to_i32(maths::float_of(word(line, k)))
+fn float(line: &[u8; 351], k: usize) -> f32 {
+    maths::float_of(word(line, k))
 }
 
-fn is_box(line: &[u8; 351], b: IntBbox) -> bool {
-    (b.x0 == whole(line, 26))
-        & (b.y0 == whole(line, 27))
-        & (b.x1 == whole(line, 28))
-        & (b.y1 == whole(line, 29))
+// The angle of an arc or the offset of a curve.
+fn number(line: &[u8; 351]) -> f32 {
+    float(line, 5)
 }
 
-fn is_stop(line: &[u8; 351], number: u32, count: u32) -> bool {
-    (number == word(line, 24)) & (count == word(line, 25))
+fn transform(line: &[u8; 351]) -> [f32; 6] {
+    [
+        float(line, 6),
+        float(line, 7),
+        float(line, 8),
+        float(line, 9),
+        float(line, 10),
+        float(line, 11),
+    ]
 }
 
-fn is_told(line: &[u8; 351], r: Drawn) -> bool {
-    match r {
-        Drawn::On(pen) => is_stop(line, 0, pen.count) & is_box(line, pen.bbox),
-        Drawn::Stopped(why, count) => is_stop(line, why.number(), count),
+fn point(line: &[u8; 351], x: usize, y: usize) -> Vec2 {
+    Vec2::new(float(line, x), float(line, y))
+}
+
+fn points(line: &[u8; 351]) -> [Vec2; 6] {
+    [
+        point(line, 12, 13),
+        point(line, 14, 15),
+        point(line, 16, 17),
+        point(line, 18, 19),
+        point(line, 20, 21),
+        point(line, 22, 23),
+    ]
+}
+
+fn arc(lines: &mut [u32], ink: Drawn, line: &[u8; 351]) -> Drawn {
+    let points = points(line);
+    let begin = points[0];
+    let end = points[1];
+    let center = points[2];
+    let path = word(line, 3);
+    flatten_arc(
+        lines,
+        ink,
+        path,
+        begin,
+        end,
+        center,
+        number(line),
+        transform(line),
+    )
+}
+
+fn cap(lines: &mut [u32], ink: Drawn, line: &[u8; 351]) -> Drawn {
+    let points = points(line);
+    let at = points[0];
+    let cap0 = points[1];
+    let cap1 = points[2];
+    let tangent = points[3];
+    let path = word(line, 3);
+    draw_cap(
+        lines,
+        ink,
+        path,
+        word(line, 4),
+        at,
+        cap0,
+        cap1,
+        tangent,
+        transform(line),
+    )
+}
+
+fn join(lines: &mut [u32], ink: Drawn, line: &[u8; 351]) -> Drawn {
+    let points = points(line);
+    let p0 = points[0];
+    let tan_prev = points[1];
+    let tan_next = points[2];
+    let n_prev = points[3];
+    let n_next = points[4];
+    let path = word(line, 3);
+    let flags = word(line, 4);
+    draw_join(
+        lines,
+        ink,
+        path,
+        flags,
+        p0,
+        tan_prev,
+        tan_next,
+        n_prev,
+        n_next,
+        transform(line),
+    )
+}
+
+fn euler(lines: &mut [u32], ink: Drawn, line: &[u8; 351]) -> Drawn {
+    let points = points(line);
+    let cubic = [points[0], points[1], points[2], points[3]];
+    let start = points[4];
+    let end = points[5];
+    let path = word(line, 3);
+    flatten_euler(
+        lines,
+        ink,
+        path,
+        cubic,
+        transform(line),
+        number(line),
+        start,
+        end,
+    )
+}
+
+// Draws behind as many lines as the vector says.
+fn draw(lines: &mut [u32], line: &[u8; 351]) -> Drawn {
+    let bbox = IntBbox::empty();
+    let ink = Drawn::On(Pen {
+        count: word(line, 2),
+        bbox,
+    });
+    match word(line, 0) {
+        1 => arc(lines, ink, line),
+        2 => cap(lines, ink, line),
+        3 => join(lines, ink, line),
+        _ => euler(lines, ink, line),
     }
-}
-
-// The lent words, stored and not, have the hash told.
-fn is_drawn(lines: &mut [u32], line: &[u8; 351]) -> bool {
-    lists::fill(lines, lists::LENT);
-    let r = calls::draw(lines, line);
-    is_told(line, r) & (lists::hash(lines) == word(line, 30))
-}
-
-fn is_right(lines: &mut [u32], line: &[u8; 351]) -> bool {
-    let lent = word(line, 1) as usize;
-    if lent <= lines.len() {
-        return is_drawn(&mut lines[..lent], line);
-    }
-    false
-}
-
-// One line of input: 0 if its answer is the one here, 1 if not, which it writes, and 2 at the end.
-fn replay(lines: &mut [u32; 188502]) -> u64 {
-    let mut line = [0u8; 351];
-    if io::read_full(0, &mut line) != LINE {
-        return 2;
-    }
-    if is_right(lines, &line) {
-        return 0;
-    }
-    io::write_all(1, &line);
-    1
 }
 
 fn main() {
-    // 31,417 lines.
-    let mut lines = [0u32; 188502];
-    let mut count: u64 = 0;
-    let mut differ: u64 = 0;
-    while count < MOST {
-        let r = replay(&mut lines);
-        if r > 1 {
-            break;
-        }
-        differ += r;
-        count += 1;
-    }
-    lists::report_vectors(count, differ);
+    list::replay_all();
 }

@@ -1,75 +1,99 @@
-// Replays the list on standard input, which docs/ORACLE.md describes: a line is a call's number, the
-// ten numbers given and the four of the answer, as words of eight hex digits. Writes each line whose
-// answer is another here, and last how many lines there were and how many differ.
-mod calls;
+// Replays the list on standard input, which docs/ORACLE.md describes. Here are the calls of `spiral` by their numbers in
+// the list.
+mod list;
 
-use calls::Answer;
-use lists::word;
+use spiral::euler;
+use spiral::euler::CubicParams;
+use spiral::euler::EulerParams;
+use spiral::euler::EulerSeg;
+use spiral::util;
+use spiral::util::Vec2;
 
-// The bytes of a line, its end with them.
-const LINE: usize = 135;
+// A call's answer: zeros behind its own numbers.
+struct Answer(f32, f32, f32, f32);
 
-// More lines than any list has.
-const MOST: u64 = 1000000;
-
-fn given(line: &[u8; 135], k: usize) -> f32 {
-    maths::float_of(word(line, k))
+fn number(x: f32) -> Answer {
+    Answer(x, 0.0, 0.0, 0.0)
 }
 
-// Whether the number has the bits of the word, or both are no numbers.
-fn same(x: f32, w: u32) -> bool {
-    if maths::is_nan(x) {
-        return maths::is_nan(maths::float_of(w));
+fn truth(b: bool) -> Answer {
+    if b { number(1.0) } else { number(0.0) }
+}
+
+fn point(p: Vec2) -> Answer {
+    Answer(p.x, p.y, 0.0, 0.0)
+}
+
+fn cubic(v: [f32; 10]) -> Answer {
+    let p0 = Vec2::new(v[0], v[1]);
+    let p1 = Vec2::new(v[2], v[3]);
+    let q0 = Vec2::new(v[4], v[5]);
+    let q1 = Vec2::new(v[6], v[7]);
+    let c = CubicParams::from_points_derivs(p0, p1, q0, q1, v[8]);
+    Answer(c.th0, c.th1, c.chord_len, c.err)
+}
+
+fn angles(v: [f32; 10]) -> Answer {
+    let e = EulerParams::from_angles(v[0], v[1]);
+    Answer(e.th0, e.k0, e.k1, e.ch)
+}
+
+fn params(v: [f32; 10]) -> EulerParams {
+    EulerParams {
+        th0: v[0],
+        k0: v[1],
+        k1: v[2],
+        ch: v[3],
     }
-    maths::word_of(x) == w
 }
 
-fn is_told(line: &[u8; 135], r: Answer) -> bool {
-    same(r.0, word(line, 11))
-        & same(r.1, word(line, 12))
-        & same(r.2, word(line, 13))
-        & same(r.3, word(line, 14))
+fn along(v: [f32; 10]) -> Answer {
+    let p0 = Vec2::new(v[4], v[5]);
+    let p1 = Vec2::new(v[6], v[7]);
+    let seg = EulerSeg::from_params(p0, p1, params(v));
+    point(seg.eval_with_offset(v[8], v[9]))
 }
 
-fn is_right(line: &[u8; 135]) -> bool {
-    let v = [
-        given(line, 1),
-        given(line, 2),
-        given(line, 3),
-        given(line, 4),
-        given(line, 5),
-        given(line, 6),
-        given(line, 7),
-        given(line, 8),
-        given(line, 9),
-        given(line, 10),
-    ];
-    is_told(line, calls::run(word(line, 0), v))
+fn applied(v: [f32; 10]) -> Answer {
+    let z = [v[0], v[1], v[2], v[3], v[4], v[5]];
+    point(util::apply(z, Vec2::new(v[6], v[7])))
 }
 
-// One line of input: 0 if its answer is the one here, 1 if not, which it writes, and 2 at the end.
-fn replay() -> u64 {
-    let mut line = [0u8; 135];
-    if io::read_full(0, &mut line) != LINE {
-        return 2;
+// The calls on points.
+fn of_points(call: u32, v: [f32; 10]) -> Answer {
+    let p = Vec2::new(v[0], v[1]);
+    let q = Vec2::new(v[2], v[3]);
+    match call {
+        1 => point(p.add(q)),
+        2 => point(p.sub(q)),
+        3 => point(p.mul(v[2])),
+        4 => point(p.div(v[2])),
+        5 => point(p.neg()),
+        6 => number(p.dot(q)),
+        7 => number(p.length()),
+        8 => number(p.length_squared()),
+        9 => point(p.mix(q, v[4])),
+        10 => point(p.normalize()),
+        11 => number(p.atan2()),
+        12 => truth(p.is_nan()),
+        _ => truth(p.eq(q)),
     }
-    if is_right(&line) {
-        return 0;
+}
+
+fn run(call: u32, v: [f32; 10]) -> Answer {
+    match call {
+        14 => applied(v),
+        15 => point(util::apply(util::identity(), Vec2::new(v[0], v[1]))),
+        16 => cubic(v),
+        17 => angles(v),
+        18 => number(params(v).eval_th(v[4])),
+        19 => along(v),
+        20 => number(euler::espc_int_approx(v[0])),
+        21 => number(euler::espc_int_inv_approx(v[0])),
+        _ => of_points(call, v),
     }
-    io::write_all(1, &line);
-    1
 }
 
 fn main() {
-    let mut count: u64 = 0;
-    let mut differ: u64 = 0;
-    while count < MOST {
-        let r = replay();
-        if r > 1 {
-            break;
-        }
-        differ += r;
-        count += 1;
-    }
-    lists::report_vectors(count, differ);
+    list::replay_all();
 }
