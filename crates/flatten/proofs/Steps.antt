@@ -3,14 +3,15 @@ use Prim.Native.Nat.{ℕ, _<_}
 use mathlib.Core.Path.{_≡_, ap, _∙_}
 use mathlib.Core.List.{List}
 use native.Mathlib.Omega.{arith}
-use Rattle.refusals.specs.Refusals.{found}
+use Rattle.refusals.specs.Refusals.{Read, found}
 use Rattle.refusals.specs.declared.Refusal.{Refusal}
-use Rattle.drawing.specs.Sheet.{Event, Sheet, sheet, Drew}
+use Rattle.drawing.specs.Sheet.{Event, sheet, emptyBox, Drew}
 use Rattle.drawing.specs.SheetLaws.{exact}
+use Rattle.drawing.specs.declared.line.IntBbox.{IntBbox}
 use Rattle.drawing.specs.declared.line.Pen.{Pen}
 use Rattle.drawing.specs.declared.line.Drawn.{Drawn}
 use Rattle.drawing.specs.declared.line.Drawn.the-variants.{On, Stopped}
-use Rattle.flatten.specs.Step.{drawnOf, turnOf, refusedAt, stepped, behind}
+use Rattle.flatten.specs.Step.{drawnOf, freshPen, turnOf, refusedAt, stepped, behind}
 use Rattle.flatten.specs.declared.call.Turn.{Turn}
 use Rattle.flatten.specs.declared.tag.Head.{Head}
 
@@ -18,8 +19,9 @@ pub drew-found : {path : ℕ} {pen : Pen} {ws ws' : List ℕ} {d : Drawn} {es : 
 unfolding drawnOf
 drew-found h = exact h
 
-pub went : (t : Turn) (h : Head) (d : Drawn) (ws : List ℕ) (s : Sheet) → sheet ws d ≡ s → stepped (turnOf t h d) ws ≡ behind t h s
-went t h d ws s k = ap (behind t h) k
+pub went : (path : ℕ) (b : IntBbox) (ws ws' : List ℕ) (d : Drawn) (r : Read (List Event)) (t : Turn) (h : Head) → b ≡ emptyBox
+    → sheet ws' d ≡ drawnOf path (record { count = t .count; bbox = b }) ws r → stepped (turnOf t h d) ws' ≡ behind t h (drawnOf path (freshPen t) ws r)
+went path b ws ws' d r t h e k = ap (behind t h) (k ∙ ap (λ (b : IntBbox). drawnOf path (record { count = t .count; bbox = b }) ws r) e)
 
 -- fewer tags are left
 pub fewer : (r t : Turn) (h : Head) (d : Drawn) → r ≡ turnOf t h d → 0 < t .left → r .left < t .left
