@@ -28,8 +28,9 @@ use Rattle.segment.specs.Segment.{fillEvents, shapeEvents}
 use Rattle.flatten.specs.Boxes.{freshBox, hasExtent, markedOf, mergedOf, changedOf, changedAt}
 use Rattle.flatten.specs.Tag.{_>>=_, boxed, headAt, shapeAt, eventsBy, eventsAt}
 use Rattle.flatten.specs.Step.{drawnOf, changeOf, turnOf, refusedAt, stepFrom, stepOf}
-use Rattle.flatten.specs.Call.{firstTurn, startOf, taken, onward, after, answerOf, toldOf, Outcome, callOf}
+use Rattle.flatten.specs.Call.{firstTurn, startOf, taken, onward, after, answerOf, said, toldOf, Outcome, outcome, callOf}
 use Rattle.flatten.specs.declared.boxes.PathBox.{PathBox}
+use Rattle.flatten.specs.declared.call.Layout.{Layout}
 
 -- ---- a row: what the definitions give, and what was measured
 
@@ -57,13 +58,13 @@ told o = nat (o .answer .number) ∷ nat (o .answer .tag) ∷ nat (o .answer .co
 
 -- ---- the triangle, by its first tag: a transform, then a style, two lines, a line that ends the subpath, and a path
 
-abbrev sceneFrom : ℕ → List ℕ
+abbrev pub sceneFrom : ℕ → List ℕ
 sceneFrom first =
     (0x01014000 + first) ∷ 0x00001005 ∷ (replicate 62 0
     ++ 0x00000000 ∷ 0x00000003 ∷ 0x00060000 ∷ 0x00000000 ∷ 0x3f800000 ∷ 0 ∷ 0 ∷ 0x3f800000 ∷ 0 ∷ 0 ∷ 0 ∷ 0 ∷ [])
 
 -- the prefixes of a fresh scan
-abbrev scanned : ℕ → List ℕ
+abbrev pub scanned : ℕ → List ℕ
 scanned first = scanOf (sceneFrom first) 0 (replicate 4096 0) .words
 
 -- a tag's data offset
@@ -71,14 +72,15 @@ abbrev offset : Read PathTagData → List Value
 offset (found d) = nat (d .monoid .«pathseg_offset») ∷ []
 offset (refused why) = []
 
+abbrev pub bases : Layout
+bases = record { «n_wg» = 1; «tag_base» = 0; «data_base» = 0x40; «transform_base» = 0x44; «style_base» = 0x4a }
+
 -- its call, with boxes and with room for so many lines
-abbrev triangle : ℕ → List PathBox → ℕ → Outcome
-triangle first boxes room =
-    callOf (record { «n_wg» = 1; «tag_base» = 0; «data_base» = 0x40; «transform_base» = 0x44; «style_base» = 0x4a })
-    (sceneFrom first) (scanned first) boxes (replicate (room * 6) 0)
+abbrev pub triangle : ℕ → List PathBox → ℕ → Outcome
+triangle first boxes room = callOf bases (sceneFrom first) (scanned first) boxes (replicate (room * 6) 0)
 
 -- (0, 0) to (3, 0), to (0, 6), and back
-abbrev threeLines : List ℕ
+abbrev pub threeLines : List ℕ
 threeLines =
     0 ∷ 0 ∷ 0x00000000 ∷ 0x00000000 ∷ 0x40400000 ∷ 0x00000000
     ∷ 0 ∷ 0 ∷ 0x40400000 ∷ 0x00000000 ∷ 0x00000000 ∷ 0x40c00000
@@ -118,6 +120,20 @@ table =
     ∷ row (float (halfOf 0x4400) ∷ []) (float (whole 4) ∷ [])
     ∷ []
 
-pub as-measured : map (λ r. r .given) table ≡ map (λ r. r .measured) table
+-- ---- an accepted call that draws
+
+-- the triangle with a box and room, drawn: three lines, and their box
+abbrev pub drawn : Outcome
+drawn = outcome (said 0 0 3) (record { x0 = pos 0; y0 = pos 0; x1 = pos 3; y1 = pos 6; «draw_flags» = 0; «trans_ix» = 0 } ∷ []) threeLines
+
+computed : (map (λ r. r .given) table ≡ map (λ r. r .measured) table) × (triangle 0x20 (freshBox ∷ []) 3 ≡ drawn)
 unfolding table flatten ofBits ofInt toBits toSigned toUnsigned round neg add sub mul div lt le eq isNan signOf signed absOf halfUnits halfFields halfOf before maxOf clampOf wholeOf floorOf ceilOf sqrtOf twoThirdsOf hypotOf trig.boundedOf trig.sinNear trig.cosNear trig.reducedOf trig.curveOf trig.waveOf trig.sinOf trig.cosOf trig.angleOf trig.atan2Of addOf subOf mulOf dotOf lengthOf lengthSquaredOf mixOf angleOf hasNan eqOf identityOf applyOf fittedError errorRatio longChord fromPointsDerivs fromAngles wordAt tagSums plus byteAt sumsBelow wordSums tagData prefixAt withPrefix tagIn tagOf sumsBefore prefixes filled scanOf i16Of i16Point pointWords pointAt lineCubic pointCount raised cubicOf reaches segmentOf floatsAt transformOf flagsOf lowerOf higherOf emptyBox boxWith hasRoom stored drawOn draw drawAll cubicPoint cubicDeriv cubicAt isShort firstTip tipAt paramsOf multiplierOf integrandOf robustOf nFracOf fitOf lineOf linesOf rangeOf rangeEnd tipOf isNear accepted walk isPoint sideEvents deviceSide eulerEvents fillEvents shapeEvents freshBox hasExtent markedOf mergedOf changedOf changedAt _>>=_ boxed headAt shapeAt eventsBy eventsAt drawnOf changeOf turnOf refusedAt stepFrom stepOf firstTurn startOf taken onward after answerOf numberOf toldOf callOf
-as-measured = refl
+computed = (refl, refl)
+
+-- ---- the two theorems
+
+pub as-measured : map (λ r. r .given) table ≡ map (λ r. r .measured) table
+as-measured = computed .0
+
+pub as-drawn : triangle 0x20 (freshBox ∷ []) 3 ≡ drawn
+as-drawn = computed .1

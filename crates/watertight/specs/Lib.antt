@@ -7,4 +7,3 @@ pub mod Runs
 pub mod Steps
 pub mod Accepted
 pub mod Stored
-pub mod Examples
