@@ -1,0 +1,161 @@
+"""Drawing: the marks of a picture, as SVG."""
+from collections import Counter
+from itertools import accumulate, groupby, repeat
+from xml.sax.saxutils import escape
+
+from .counting import boxes_shown, chains_of, shared_and_alone
+from .geometry import Frame, heads_along
+from .lists import count, finite_points, place_of, places_of
+from .saying import shown
+
+# Okabe and Ito's colours, which people with colour blindness can tell apart, but for the yellow, which white paper
+# hides, and the vermilion, which is too near to the red of the rings.
+PALETTE = ["#0072b2", "#e69f00", "#009e73", "#cc79a7", "#000000", "#56b4e9"]
+INK, GREY, RED = "#222222", "#555555", "#d00000"
+# For each of two lists: colour and width of a line that both have, and of one that only this list has.
+SHARED = [("#b5daf0", 6), ("#d97f26", 1.5)]
+ALONE = [("#0072b2", 6), ("#b85c00", 3)]
+# Of more open points each is a dot without words, so that the picture can still be opened.
+MOST_RINGS = 10_000
+# Lines in one element: viewers take very long for one with many more, and for very many elements.
+MOST_LINES = 1000
+
+
+def digits(x):
+    """Six digits, so at most 0.0005 off: no drawing is longer than 800 of the picture's units."""
+    return f"{x:.6g}"
+
+
+def pair(place):
+    return "%.6g %.6g" % place
+
+
+def text(x, y, words, fill=INK, weight="normal", size=14):
+    return (f'<text x="{digits(x)}" y="{digits(y)}" font-family="sans-serif" font-size="{size}" '
+            f'font-weight="{weight}" fill="{fill}">{escape(words)}</text>')
+
+
+def way(*places, end=""):
+    """A path through the places."""
+    return f'<path d="M{" ".join(map(pair, places))}{end}"/>'
+
+
+def rectangle(corner, far_corner):
+    """A path, since SVG shows no rectangle that is flat."""
+    (x0, y0), (x1, y1) = corner, far_corner
+    return way((x0, y0), (x1, y0), (x1, y1), (x0, y1), end="z")
+
+
+def inked(marks, colour, width, more=""):
+    """Ends are round, so a line whose ends meet is seen as a dot."""
+    return (f'<g stroke="{colour}" stroke-width="{width}" fill="none" stroke-linecap="round" stroke-linejoin="round"'
+            f'{more}>{"".join(marks)}</g>')
+
+
+def frame_of(lists):
+    xs, ys = [], []
+    for found in lists:
+        lines = found.lines.drawable()
+        corners = [box[i:i + 2] for box in boxes_shown(found).values() for i in (0, 2)]
+        for column, more in ((xs, 0), (ys, 1)):
+            column += [*places_of(lines.starts)[more], *places_of(lines.ends)[more], *(c[more] for c in corners)]
+    return Frame(xs, ys)
+
+
+def places_along(lines, chain, frame):
+    return frame.all_at([lines.starts[chain.start], *lines.ends[chain]])
+
+
+def packed(parts, sizes):
+    """Path elements of the parts, each with those of about MOST_LINES together."""
+    shelves = [total // MOST_LINES for total in accumulate(sizes)]
+    together = groupby(zip(shelves, parts), key=lambda placed: placed[0])
+    return [f'<path d="{"".join(part for _, part in group)}"/>\n' for _, group in together]
+
+
+def chains_drawn(lines, frame):
+    """Of each chain the start, and every end."""
+    chains = chains_of(lines, MOST_LINES)
+    starts = frame.all_at([lines.starts[chain.start] for chain in chains])
+    ends = list(map(pair, frame.all_at(lines.ends)))
+    parts = [f'M{pair(start)} {" ".join(ends[chain])}' for start, chain in zip(starts, chains)]
+    return packed(parts, [part.count(" ") // 2 for part in parts])
+
+
+def head_drawn(place, forth, size):
+    """A triangle around the place, its tip ahead."""
+    (x, y), (u, v), half = place, forth, size / 2
+    back = x - half * u, y - half * v
+    side = 0.8 * half
+    return way((x + half * u, y + half * v), (back[0] - side * v, back[1] + side * u),
+               (back[0] + side * v, back[1] - side * u), end="z")
+
+
+def heads_drawn(lines, frame, colour, width):
+    """Arrow heads, larger on wider lines."""
+    chains = chains_of(lines, MOST_LINES)
+    heads = [head_drawn(*head) for chain in chains
+             for head in heads_along(places_along(lines, chain, frame), 7 + 2 * width)]
+    return f'<g fill="{colour}" class="heads">{"".join(heads)}</g>'
+
+
+def lines_drawn(lines, frame, colour, width, title, arrows):
+    lines = lines.drawable()
+    drawn = inked([f"<title>{title}</title>\n", *chains_drawn(lines, frame)], colour, width)
+    return drawn + (heads_drawn(lines, frame, colour, width) if arrows else "")
+
+
+def box_drawn(box, frame, colour, side):
+    """The second list's dashes fill the gaps of the first's."""
+    dashes = f' stroke-dasharray="4 8" stroke-dashoffset="{6 * side}" class="box"'
+    return inked([rectangle(frame.at(box[:2]), frame.at(box[2:]))], colour, 1, dashes)
+
+
+def boxes_drawn(found, frame, colour_of, side, taken):
+    """`taken` counts the labels at a corner, so that none lies on another."""
+    drawn = []
+    for path, box in boxes_shown(found).items():
+        x, y = frame.at(box[:2])
+        label = text(x + 60 * taken[x, y], y - 6, f"path {path}", colour_of(path), size=12)
+        drawn += [box_drawn(box, frame, colour_of(path), side), label]
+        taken[x, y] += 1
+    return drawn
+
+
+def ring(outline, point, frame, radius):
+    place, (starts, ends) = place_of(point), outline.open[point]
+    cx, cy = map(digits, frame.at(place))
+    where = ", ".join(map(shown, place))
+    title = f"path {outline.path}, ({where}): {count(starts, 'start')}, {count(ends, 'end')}"
+    return f'<circle cx="{cx}" cy="{cy}" r="{radius}"><title>{title}</title></circle>\n'
+
+
+def rings_drawn(found, frame, radius):
+    finite = [(outline, finite_points(outline.open)) for outline in found.outlines]
+    if sum(len(points) for _, points in finite) > MOST_RINGS:
+        dots = [f"M{pair(place)}h0" for _, points in finite for place in frame.all_at(points)]
+        return inked(packed(dots, repeat(1, len(dots))), RED, radius, ' class="dots"')
+    rings = [ring(outline, point, frame, radius) for outline, points in finite for point in points]
+    return inked(rings, RED, 2, ' pointer-events="all"')
+
+
+def path_colour(path):
+    return PALETTE[path % len(PALETTE)]
+
+
+def one_drawn(found, frame, arrows):
+    drawn = boxes_drawn(found, frame, path_colour, 0, Counter())
+    drawn += [lines_drawn(outline.lines, frame, path_colour(outline.path), 2, f"path {outline.path}", arrows)
+              for outline in found.outlines]
+    return drawn + [rings_drawn(found, frame, 8)]
+
+
+def two_drawn(first, second, frame, arrows):
+    drawn, taken = [], Counter()
+    for side, found in enumerate((first, second)):
+        drawn += boxes_drawn(found, frame, lambda path, side=side: ALONE[side][0], side, taken)
+    for side, (found, other) in enumerate(((first, second), (second, first))):
+        shared, alone = shared_and_alone(found.lines, other.lines)
+        drawn += [lines_drawn(shared, frame, *SHARED[side], "in both", arrows),
+                  lines_drawn(alone, frame, *ALONE[side], f"only in the {('first', 'second')[side]}", arrows)]
+    return drawn + [rings_drawn(first, frame, 11), rings_drawn(second, frame, 7)]

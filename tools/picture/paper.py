@@ -1,0 +1,130 @@
+"""The sheet of paper: a head of sentences, the drawing with its scale bar, and beside it the legend."""
+import math
+from typing import NamedTuple, Optional
+
+from .drawing import (ALONE, GREY, INK, RED, SHARED, frame_of, inked, one_drawn, pair, path_colour, rectangle, text,
+                      two_drawn, way)
+from .geometry import round_length
+from .saying import about_boxes, about_left, about_lines, about_outline, lacks_of, notes_of, shown, told_and_left
+
+MARGIN, ROW, SWATCH = 30, 20, 34
+LONGEST_BAR = 200
+
+
+class Wishes(NamedTuple):
+    """What is asked of a picture: how many millimetres a unit has, if that is known, and whether arrows are drawn."""
+    millimetres: Optional[float] = None
+    arrows: bool = False
+
+
+class Row(NamedTuple):
+    """A row of text; the mark before it is drawn around the middle of its place."""
+    words: str
+    fill: str = INK
+    weight: str = "normal"
+    mark: str = ""
+
+
+def sample(*inks):
+    return "".join(inked([way((4, 0), (SWATCH - 10, 0))], colour, width) for colour, width in inks)
+
+
+def head_of(lists):
+    names = [found.name for found in lists]
+    titles = names if len(names) == 1 else [f"first: {names[0]}", f"second: {names[1]}"]
+    rows = []
+    for side, (found, title) in enumerate(zip(lists, titles)):
+        mark = sample(ALONE[side]) if len(lists) == 2 else ""
+        rows.append(Row(title, weight="bold", mark=mark))
+        rows += [Row(sentence, RED, "bold") for sentence in lacks_of(found)]
+        rows += [Row(sentence, weight="bold") for sentence in notes_of(found)]
+    return rows
+
+
+def outline_rows(found, mark_of, before=""):
+    told, left = told_and_left(found.outlines)
+    rows = [Row(before + about_outline(outline), RED if outline.open else INK, mark=mark_of(outline.path))
+            for outline in told]
+    return rows + ([Row(before + about_left(left), RED if any(outline.open for outline in left) else INK)] if left else [])
+
+
+def one_rows(found):
+    return outline_rows(found, lambda path: sample((path_colour(path), 2)))
+
+
+def two_rows(first, second):
+    rows = outline_rows(first, lambda _: sample(ALONE[0]), "first, ")
+    rows += outline_rows(second, lambda _: sample(ALONE[1]), "second, ")
+    marks = sample(*SHARED), sample(ALONE[0]), sample(ALONE[1])
+    rows += [Row(words, mark=mark) for words, mark in zip(about_lines(first, second), marks)]
+    return rows + [Row(about_boxes(first, second)), Row("larger rings are the first's", GREY)]
+
+
+def extent(axis, first, way_there, last, millimetres):
+    """How far the drawing goes, and how long that is where the unit is known."""
+    words = f"{axis} from {shown(first)} {way_there} to {shown(last)}"
+    return words if millimetres is None else f"{words}: {(last - first) * millimetres:.6g} mm"
+
+
+def key_rows(frame, wishes):
+    """What the marks mean, and which way the axes point."""
+    dashes = inked([rectangle((4, -5), (SWATCH - 10, 5))], GREY, 1, ' stroke-dasharray="4 4"')
+    circle = inked([f'<circle cx="{SWATCH // 2 - 3}" cy="0" r="7"/>'], RED, 2)
+    rows = [Row("box of a path", GREY, mark=dashes),
+            Row("open point: not a start as often as an end", GREY, mark=circle)]
+    if wishes.arrows:
+        head = f'<g fill="{GREY}">{way((20, 0), (8, 5), (8, -5), end="z")}</g>'
+        rows.append(Row("the way a line runs, from start to end", GREY, mark=head))
+    if not frame.is_empty:
+        rows += [Row(extent("x", frame.x0, "rightward", frame.x1, wishes.millimetres), GREY),
+                 Row(extent("y", frame.y0, "downward", frame.y1, wishes.millimetres), GREY)]
+    return rows
+
+
+def bar_drawn(frame, millimetres, x, y):
+    """The scale bar, of a round number of units, or of millimetres where a unit's are known."""
+    per_unit = 1 if millimetres is None else millimetres
+    length = round_length(LONGEST_BAR / frame.scale * per_unit)
+    across = length / per_unit * frame.scale
+    unit = "mm" if millimetres is not None else "unit" if length == 1 else "units"
+    marks = [way((x, y - 5), (x, y + 5)), way((x, y), (x + across, y)), way((x + across, y - 5), (x + across, y + 5))]
+    label = text(x + across + 10, y + 5, f"{shown(length)} {unit}")
+    return f'<g id="scale">{inked(marks, INK, 2)}{label}</g>'
+
+
+def width_of(rows):
+    """An estimate on the wide side: how wide a letter is depends on the viewer's font."""
+    return max(8.2 * len(row.words) + SWATCH for row in rows)
+
+
+def rows_drawn(rows, x, y):
+    """Words begin behind the marks, where any row has one."""
+    indent = SWATCH if any(row.mark for row in rows) else 0
+    drawn = []
+    for place, row in enumerate(rows):
+        middle = y + ROW * place + ROW / 2
+        drawn.append(f'<g transform="translate({pair((x, middle))})">{row.mark}'
+                     f"{text(indent, 5, row.words, row.fill, row.weight)}</g>")
+    return drawn
+
+
+def picture_of(lists, wishes):
+    """The picture of one list, or of two."""
+    frame, head = frame_of(lists), head_of(lists)
+    if len(lists) == 1:
+        drawn, legend = one_drawn(*lists, frame, wishes.arrows), one_rows(*lists)
+    else:
+        drawn, legend = two_drawn(*lists, frame, wishes.arrows), two_rows(*lists)
+    legend += key_rows(frame, wishes)
+    top = MARGIN + ROW * len(head) + MARGIN
+    below = top + frame.height + MARGIN
+    bar = "" if frame.is_empty else bar_drawn(frame, wishes.millimetres, MARGIN, below)
+    beside = MARGIN + max(frame.width, LONGEST_BAR + 4 * MARGIN) + MARGIN  # the bar and labels need room
+    width = math.ceil(max(MARGIN + width_of(head), beside + width_of(legend)) + MARGIN)
+    height = math.ceil(max(below, top + ROW * len(legend)) + MARGIN)
+    return "\n".join([
+        f'<svg xmlns="http://www.w3.org/2000/svg" width="{width}" height="{height}" viewBox="0 0 {width} {height}">',
+        "<style>path, circle { vector-effect: non-scaling-stroke }</style>",
+        f'<rect width="{width}" height="{height}" fill="white"/>', *rows_drawn(head, MARGIN, MARGIN),
+        f'<g id="drawing" transform="translate({pair((MARGIN, top))})">', *drawn, "</g>", bar,
+        *rows_drawn(legend, beside, top), "</svg>", ""])

@@ -1,0 +1,87 @@
+"""Saying: what was found in lists, in sentences that go to the picture and to standard error."""
+from itertools import zip_longest
+
+from .counting import shared_and_alone
+from .geometry import greatest_gap
+from .lists import count, finite_points, place_of
+
+# Of more outlines than this those with open points have a sentence of their own first, and the rest share one.
+MOST_OUTLINES = 40
+MOST_GAPS = 2000  # both ends of flatlist's 1,000 lines; more would take long
+
+
+def shown(x):
+    """Nine digits tell every f32 from every other."""
+    return f"{x:.9g}"
+
+
+def about_gaps(points):
+    """How near open points lie to each other, which tells a last bit from a lost line."""
+    finite = finite_points(points)
+    far = len(points) - len(finite)
+    words = f", {far:,} of them at infinity" if far else ""
+    if 2 <= len(finite) <= MOST_GAPS:
+        which = "the others each" if far else "each"
+        words += f", {which} within about {greatest_gap(map(place_of, finite)):.3g} of another"
+    return words
+
+
+def about_outline(outline):
+    points = count(len(outline.open), "open point") + about_gaps(outline.open)
+    return f"path {outline.path}: {count(len(outline.lines.paths), 'line')}, {points}"
+
+
+def told_and_left(outlines):
+    """The outlines that have a sentence each, and those that share one."""
+    if len(outlines) <= MOST_OUTLINES:
+        return outlines, []
+    by_weight = sorted(outlines, key=lambda outline: not outline.open)
+    return sorted(by_weight[:MOST_OUTLINES]), by_weight[MOST_OUTLINES:]
+
+
+def about_left(outlines):
+    lines, points = (sum(len(part) for part in parts) for parts in
+                     ([outline.lines.paths for outline in outlines], [outline.open for outline in outlines]))
+    return f"and {count(len(outlines), 'more path')}: {count(lines, 'line')}, {count(points, 'open point')}"
+
+
+def about_outlines(outlines):
+    told, left = told_and_left(outlines)
+    return [about_outline(outline) for outline in told] + ([about_left(left)] if left else [])
+
+
+def lacks_of(found):
+    """What a picture of the list lacks, a sentence each."""
+    lacks = []
+    if found.refusal:
+        lacks.append(f"{found.refusal}; drawn up to there")
+    if found.far:
+        what = f"{count(len(found.far), 'line')} not drawn, nor the box of the path, since a coordinate is infinite"
+        lacks.append(f"{what}; the first is record {found.far[0] + 1:,}")
+    return lacks
+
+
+def notes_of(found):
+    """What a reader may miss, though the picture lacks nothing."""
+    return [] if found.lines.paths else ["the list has no lines"]
+
+
+def about_lines(first, second):
+    """Of both lists together: the lines that both have, that only the first has, and that only the second has."""
+    shared, alone = shared_and_alone(first.lines, second.lines)
+    rest = len(second.lines.paths) - len(shared.paths)
+    both = f"{count(len(shared.paths), 'line')} in both"
+    return both, f"{len(alone.paths):,} only in the first", f"{rest:,} only in the second"
+
+
+def about_boxes(first, second):
+    pairs = enumerate(zip_longest(first.boxes, second.boxes))
+    differ = [str(path) for path, (box, other) in pairs if box != other]
+    return f"boxes differ at path {', '.join(differ)}" if differ else "the boxes are the same"
+
+
+def sentences_of(lists):
+    """All that is said of one list or two."""
+    said = [f"{found.name}: {sentence}" for found in lists
+            for sentence in about_outlines(found.outlines) + lacks_of(found) + notes_of(found)]
+    return said + [", ".join(about_lines(*lists)), about_boxes(*lists)] if len(lists) == 2 else said
