@@ -2,7 +2,7 @@
 
 use std::hint::black_box;
 use std::process::ExitCode;
-use std::time::{Duration, Instant};
+use std::time::Duration;
 
 use hinthevoun::{Layout, PathBox};
 use oracle::drafts::{Encoded, Figures};
@@ -17,13 +17,15 @@ const LINES: usize = 10_000;
 const GROWTH: [usize; 4] = [1_000, 10_000, 100_000, 1_000_000];
 /// One line in so many may be more or fewer, since std's mathematics is not ours.
 const LEEWAY: u32 = 1_000;
+/// A middle round that takes so much longer than the least one tells of a machine that does not let anything be timed.
+const DISTURBED: f64 = 1.25;
 
 const KINDS: [(&str, Figures); 7] = [
     ("fills of lines", Figures::FilledLines),
     ("fills of quads", Figures::FilledQuads),
     ("fills of cubics", Figures::FilledCubics),
-    ("strokes of lines, bevel", Figures::BevelLines),
-    ("strokes of curves, miter", Figures::MiterCurves),
+    ("strokes of lines, bevel joins, butt caps", Figures::BevelLines),
+    ("strokes of curves, miter joins, butt caps", Figures::MiterCurves),
     ("strokes, round joins and caps", Figures::RoundStrokes),
     ("mixed sheet", Figures::Pieces),
 ];
@@ -99,17 +101,40 @@ impl Desk {
 struct Times(Vec<Duration>);
 
 impl Times {
-    /// The least and the middle one, in nanoseconds per part.
-    fn per(&self, parts: u32) -> (f64, f64) {
-        let part = |time: Duration| time.as_secs_f64() * 1e9 / f64::from(parts);
-        (part(self.0[0]), part(self.0[self.0.len() / 2]))
+    /// The least one, in nanoseconds per part.
+    fn per(&self, parts: u32) -> f64 {
+        self.0[0].as_secs_f64() * 1e9 / f64::from(parts)
+    }
+
+    /// How many times the least one the middle one is.
+    fn spread(&self) -> f64 {
+        self.0[self.0.len() / 2].as_secs_f64() / self.0[0].as_secs_f64()
     }
 }
 
+/// The time that the processor has spent on this thread: what else the machine does is not in it.
+fn processor_time() -> Duration {
+    /// C's, where a long has 64 bits.
+    #[repr(C)]
+    struct Timespec {
+        seconds: i64,
+        nanoseconds: i64,
+    }
+    unsafe extern "C" {
+        fn clock_gettime(clock: i32, time: *mut Timespec) -> i32;
+    }
+    const CLOCK_THREAD_CPUTIME_ID: i32 = 3;
+    let mut time = Timespec { seconds: 0, nanoseconds: 0 };
+    // SAFETY: the clock writes one Timespec, which is lent to it alone.
+    let status = unsafe { clock_gettime(CLOCK_THREAD_CPUTIME_ID, &mut time) };
+    assert_eq!(status, 0, "Linux has a clock for each thread");
+    Duration::new(time.seconds as u64, time.nanoseconds as u32)
+}
+
 fn time_of(run: impl FnOnce()) -> Duration {
-    let start = Instant::now();
+    let start = processor_time();
     run();
-    start.elapsed()
+    processor_time() - start
 }
 
 /// The things in turn, round after round, so that what disturbs one disturbs all.
@@ -136,51 +161,88 @@ fn desk(figures: Figures, lines: usize) -> Desk {
     Desk::new(figures.sheet(count), lines * 3 / 2)
 }
 
-/// A row of the table, and whether the counts of lines are the same, or nearly.
-fn row(name: &str, figures: Figures, lines: usize) -> bool {
-    let mut desk = desk(figures, lines);
-    let (rust_count, port_count) = (desk.rust(false), desk.port(false));
-    let [rust, port, rust_cleared, port_cleared] = times(|which| {
-        match which {
-            0 => desk.rust(false),
-            1 => desk.port(false),
-            2 => desk.rust(true),
-            _ => desk.port(true),
-        };
-    });
-    let side = |rust: Times, port: Times| {
-        let ((rust, rust_middle), (port, port_middle)) = (rust.per(rust_count), port.per(port_count));
-        format!("{rust:.1} ({rust_middle:.1}) | {port:.1} ({port_middle:.1}) | {:.2}", port / rust)
-    };
-    let (kept, cleared) = (side(rust, port), side(rust_cleared, port_cleared));
-    println!("| {name} | {rust_count} / {port_count} | {kept} | {cleared} |");
-    rust_count.abs_diff(port_count) <= rust_count / LEEWAY
+/// With a comma before each three digits.
+fn commas(n: u32) -> String {
+    let digits = n.to_string();
+    let groups: Vec<&str> = digits.as_bytes().rchunks(3).rev().map(|g| str::from_utf8(g).expect("digits")).collect();
+    groups.join(",")
 }
 
-fn heading() {
-    println!(
-        "| sheet | lines, Rust / port | Rust | port | port / Rust | Rust, cleared | port, cleared | port / Rust |"
-    );
-    println!("|---|---|---|---|---|---|---|---|");
+/// A row of a table, and what is told of all of them at the end.
+struct Row {
+    lines: String,
+    cells: String,
+    /// Whether the counts of lines are the same, or nearly.
+    alike: bool,
+    spread: f64,
+}
+
+impl Row {
+    fn of(figures: Figures, lines: usize) -> Self {
+        let mut desk = desk(figures, lines);
+        let counts @ [rust_count, port_count] = [desk.rust(false), desk.port(false)];
+        let times: [Times; 4] = times(|which| {
+            match which {
+                0 => desk.rust(false),
+                1 => desk.port(false),
+                2 => desk.rust(true),
+                _ => desk.port(true),
+            };
+        });
+        let side = |[rust, port]: [f64; 2]| format!("{rust:.1} | {port:.1} | {:.2}", port / rust);
+        let [rust, port, rust_cleared, port_cleared] =
+            std::array::from_fn(|which| times[which].per(counts[which % 2]));
+        let lines = if rust_count == port_count {
+            commas(rust_count)
+        } else {
+            format!("{} / {}", commas(rust_count), commas(port_count))
+        };
+        Self {
+            lines,
+            cells: format!("{} | {}", side([rust, port]), side([rust_cleared, port_cleared])),
+            alike: rust_count.abs_diff(port_count) <= rust_count / LEEWAY,
+            spread: times.iter().map(Times::spread).fold(1., f64::max),
+        }
+    }
+}
+
+fn heading(first: &str) {
+    println!("{first}| Lines | Rust | port | port / Rust | Rust, cleared | port, cleared | port / Rust |");
+    println!("{}|---|---|---|---|---|---|---|", if first.is_empty() { "" } else { "|---" });
+}
+
+/// The tables of docs/SPEED.md.
+fn tables() -> Vec<Row> {
+    let mut rows = Vec::new();
+    heading("| Sheet ");
+    for (name, figures) in KINDS {
+        let row = Row::of(figures, LINES);
+        println!("| {name} | {} | {} |", row.lines, row.cells);
+        rows.push(row);
+    }
+    println!("\nHow it grows, on the mixed sheet:\n");
+    heading("");
+    for lines in GROWTH {
+        let row = Row::of(Figures::Pieces, lines);
+        println!("| {} | {} |", row.lines, row.cells);
+        rows.push(row);
+    }
+    rows
 }
 
 fn main() -> ExitCode {
-    println!("Nanoseconds per line: the least of many rounds, and in parentheses the middle one.\n");
-    heading();
-    let mut alike = true;
-    for (name, figures) in KINDS {
-        alike &= row(name, figures, LINES);
-    }
-    println!();
-    heading();
-    for lines in GROWTH {
-        alike &= row("mixed sheet", Figures::Pieces, lines);
-    }
+    println!("Nanoseconds of the processor per line, the least of many rounds.\n");
+    let rows = tables();
     let mut desk = desk(Figures::Pieces, LINES);
     let tags = desk.sheet.layout.n_wg * 256;
     let [scan] = times(|_| desk.scan());
-    println!("\nThe scan, nanoseconds per tag: {:.2} ({:.2}).", scan.per(tags).0, scan.per(tags).1);
-    if alike {
+    println!("\nThe scan takes {:.1} ns per tag.", scan.per(tags));
+    let spread = rows.iter().map(|row| row.spread).fold(1., f64::max);
+    println!("The middle round of a sheet took at most {spread:.2} times the least.");
+    if spread > DISTURBED {
+        println!("That is far: other work disturbed the times, and the ratios may be off. Try again on a quiet machine.");
+    }
+    if rows.iter().all(|row| row.alike) {
         return ExitCode::SUCCESS;
     }
     println!("The counts of lines differ by more than one in {LEEWAY}.");
