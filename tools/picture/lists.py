@@ -176,7 +176,7 @@ def wrong_row(name, number, row):
 
 def lines_of(name, text):
     if not are_records(text):
-        rows = enumerate(rows_of(text + b"\n"), 2)
+        rows = enumerate(rows_of(text), 2)
         raise wrong_row(name, *next((number, row) for number, row in rows if not RECORD.fullmatch(row)))
     data = bytes.fromhex(text.decode())
     words, floats, pairs = (column_of(kind, data) for kind in "IfQ")
@@ -207,13 +207,13 @@ def listing_of(name, data):
     """The list that flatlist wrote."""
     if not data:
         raise wrong_at(name, 1, "empty")
-    row, _, rest = data.partition(b"\n")
-    promised, refusal = answer_of(name, row)
-    behind = rest.find(b"box ")
-    behind = len(rest) if behind < 0 else behind
-    lines = lines_of(name, rest[:behind])
+    behind_first = data.index(b"\n") + 1
+    promised, refusal = answer_of(name, data[:behind_first - 1])
+    place = data.find(b"\nbox ")
+    behind = len(data) if place < 0 else place + 1
+    lines = lines_of(name, data[behind_first:behind])
     first = len(lines.paths) + 2
-    boxes = [box_of(name, number, row) for number, row in enumerate(rows_of(rest[behind:]), first)]
+    boxes = [box_of(name, number, row) for number, row in enumerate(rows_of(data[behind:]), first)]
     if promised not in (None, len(lines.paths)):
         raise wrong_at(name, 1, f"promises {count(promised, 'line')}, and {len(lines.paths)} follow")
     return Listing(name, refusal, lines, boxes)
