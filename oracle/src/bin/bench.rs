@@ -190,8 +190,7 @@ impl Row {
             };
         });
         let side = |[rust, port]: [f64; 2]| format!("{rust:.1} | {port:.1} | {:.2}", port / rust);
-        let [rust, port, rust_cleared, port_cleared] =
-            std::array::from_fn(|which| times[which].per(counts[which % 2]));
+        let [rust, port, rust_cleared, port_cleared] = std::array::from_fn(|which| times[which].per(counts[which % 2]));
         let lines = if rust_count == port_count {
             commas(rust_count)
         } else {
@@ -240,7 +239,9 @@ fn main() -> ExitCode {
     let spread = rows.iter().map(|row| row.spread).fold(1., f64::max);
     println!("The middle round of a sheet took at most {spread:.2} times the least.");
     if spread > DISTURBED {
-        println!("That is far: other work disturbed the times, and the ratios may be off. Try again on a quiet machine.");
+        println!(
+            "That is far: other work disturbed the times, and the ratios may be off. Try again on a quiet machine."
+        );
     }
     if rows.iter().all(|row| row.alike) {
         return ExitCode::SUCCESS;
