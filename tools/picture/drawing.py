@@ -6,7 +6,7 @@ from xml.sax.saxutils import escape
 from .counting import boxes_shown, chains_of, shared_and_alone
 from .geometry import Frame, heads_along
 from .lists import count, finite_points, place_of, places_of
-from .saying import shown
+from .saying import MOST_OUTLINES, shown
 
 # Okabe and Ito's colours, which people with colour blindness can tell apart, but for the yellow, which white paper
 # hides, and the vermilion, which is too near to the red of the rings.
@@ -112,12 +112,13 @@ def box_drawn(box, frame, colour, side):
 
 
 def boxes_drawn(found, frame, colour_of, side, taken):
-    """`taken` counts the labels at a corner, so that none lies on another."""
-    drawn = []
-    for path, box in boxes_shown(found).items():
+    """`taken` counts the labels at a corner, so that none lies on another. Many boxes have none, which would hide all."""
+    boxes, drawn = boxes_shown(found), []
+    for path, box in boxes.items():
         x, y = frame.at(box[:2])
-        label = text(x + 60 * taken[x, y], y - 6, f"path {path}", colour_of(path), size=12)
-        drawn += [box_drawn(box, frame, colour_of(path), side), label]
+        drawn.append(box_drawn(box, frame, colour_of(path), side))
+        if len(boxes) <= MOST_OUTLINES:
+            drawn.append(text(x + 60 * taken[x, y], y - 6, f"path {path}", colour_of(path), size=12))
         taken[x, y] += 1
     return drawn
 

@@ -119,7 +119,7 @@ def picture_of(lists, wishes):
     top = MARGIN + ROW * len(head) + MARGIN
     below = top + frame.height + MARGIN
     bar = "" if frame.is_empty else bar_drawn(frame, wishes.millimetres, MARGIN, below)
-    beside = MARGIN + max(frame.width, LONGEST_BAR + 4 * MARGIN) + MARGIN  # the bar and labels need room
+    beside = MARGIN + max(frame.width, LONGEST_BAR + 3 * MARGIN) + 2 * MARGIN  # labels and the bar need room
     width = math.ceil(max(MARGIN + width_of(head), beside + width_of(legend)) + MARGIN)
     height = math.ceil(max(below, top + ROW * len(legend)) + MARGIN)
     return "\n".join([
