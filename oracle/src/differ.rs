@@ -11,10 +11,12 @@ use crate::whole::{Given, Main};
 /// A name, ours, and std's.
 type Function = (&'static str, fn(f32) -> f32, fn(f32) -> f32);
 
-const FUNCTIONS: [Function; 9] = [
+const FUNCTIONS: [Function; 11] = [
     ("sqrt(x)", |x| Ours::sqrt(x), |x| x.sqrt()),
     ("cbrt(x)", |x| Ours::cbrt(x), |x| x.cbrt()),
     ("powf(x, 2. / 3.)", |x| Ours::powf(x, 2. / 3.), |x| x.powf(2. / 3.)),
+    ("powi(x, 2)", |x| Ours::powi(x, 2), |x| x.powi(2)),
+    ("powi(x, 5)", |x| Ours::powi(x, 5), |x| x.powi(5)),
     ("hypot(x, 1.)", |x| Ours::hypot(x, 1.), |x| x.hypot(1.)),
     ("sin(x)", |x| Ours::sin(x), |x| x.sin()),
     ("cos(x)", |x| Ours::cos(x), |x| x.cos()),
