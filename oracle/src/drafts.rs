@@ -9,10 +9,10 @@ use crate::shapes::Point;
 use crate::tags::{self, F32, LINE, PATH, QUAD, STYLE, SUBPATH_END, TRANSFORM};
 use crate::values::Values;
 
-const FILL: u32 = 0;
+pub(crate) const FILL: u32 = 0;
 /// 4 as a binary16.
 const MITER_LIMIT: u32 = 0x4400;
-const BEVEL: u32 = Style::FLAGS_STYLE_BIT | Style::FLAGS_JOIN_BITS_BEVEL;
+pub(crate) const BEVEL: u32 = Style::FLAGS_STYLE_BIT | Style::FLAGS_JOIN_BITS_BEVEL;
 const MITER: u32 = Style::FLAGS_STYLE_BIT | Style::FLAGS_JOIN_BITS_MITER | MITER_LIMIT;
 /// With round caps, of which the start's bits stand two places above the end's.
 const ROUND: u32 = Style::FLAGS_STYLE_BIT
@@ -28,13 +28,13 @@ pub struct Encoded {
 }
 
 /// A start, and of each segment the points behind the one where the last ended.
-struct Outline {
-    start: Point,
-    segments: Vec<Vec<Point>>,
+pub(crate) struct Outline {
+    pub start: Point,
+    pub segments: Vec<Vec<Point>>,
 }
 
 #[derive(Default)]
-struct Draft {
+pub(crate) struct Draft {
     tags: Vec<u8>,
     data: Vec<u32>,
     transforms: Vec<u32>,
@@ -45,8 +45,13 @@ struct Draft {
 impl Draft {
     /// What is drawn next is scaled and moved so, and has this style.
     fn begin(&mut self, scale: f32, [x, y]: Point, flags: u32, width: f32) {
+        self.begin_under([scale, 0., 0., scale, x, y], flags, width);
+    }
+
+    /// What is drawn next stands under this transform, and has this style.
+    pub fn begin_under(&mut self, transform: [f32; 6], flags: u32, width: f32) {
         self.tags.extend([TRANSFORM, STYLE]);
-        self.transforms.extend([scale, 0., 0., scale, x, y].map(f32::to_bits));
+        self.transforms.extend(transform.map(f32::to_bits));
         self.styles.extend([flags, width.to_bits()]);
     }
 
@@ -63,13 +68,13 @@ impl Draft {
     }
 
     /// The outline ends where it starts.
-    fn filled(&mut self, outline: &Outline) {
+    pub fn filled(&mut self, outline: &Outline) {
         self.segments(outline);
         *self.tags.last_mut().expect("an outline has segments") |= SUBPATH_END;
     }
 
     /// The marker behind holds the start and the first tangent, for the caps.
-    fn open_stroke(&mut self, outline: &Outline) {
+    pub fn open_stroke(&mut self, outline: &Outline) {
         self.segments(outline);
         self.points(&[outline.start, outline.segments[0][0]]);
         self.tags.push(F32 | QUAD | SUBPATH_END);
@@ -82,13 +87,13 @@ impl Draft {
         self.tags.push(F32 | LINE | SUBPATH_END);
     }
 
-    fn end(&mut self) {
+    pub fn end(&mut self) {
         self.tags.push(PATH);
         self.paths += 1;
     }
 
     /// Whole workgroups of tags, then the points, the transforms and the styles.
-    fn encoded(self) -> Encoded {
+    pub fn encoded(self) -> Encoded {
         let (n_wg, mut scene) = tags::workgroups(&self.tags);
         let data_base = scene.len() as u32;
         scene.extend(self.data);
