@@ -81,7 +81,7 @@ fn arch(values: &mut Values) -> Vec<Point> {
     vec![[0., 0.], [x1, y1], [size - x2, y2], [size, 0.]]
 }
 
-/// A cusp one time in four, else nearly one, with or without a loop; then the end is cut off, so that it may lie anywhere.
+/// A cusp one time in four, else nearly one, with or without a loop; then the end is cut off, so that it lies anywhere.
 fn cusp(values: &mut Values) -> Vec<Point> {
     let (size, most) = (size(values), power(values, -12, 11));
     let off = if values.once_in(4) { 0. } else { values.within(most) };
@@ -95,8 +95,8 @@ fn cusp(values: &mut Values) -> Vec<Point> {
     points
 }
 
-/// Scales by 1/4 to 8, turns, often turns over, sometimes stretches up to twofold, and moves by up to 4,096. Not by std's sine:
-/// a curve must be the same on every machine.
+/// Scales by 1/4 to 8, turns, often turns over, sometimes stretches up to twofold, and moves by up to 4,096. Not by std's
+/// sine: a curve must be the same on every machine.
 fn transform(values: &mut Values) -> [f32; 6] {
     let scale = power(values, -2, 5);
     let t = values.within(1.);

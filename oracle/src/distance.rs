@@ -288,7 +288,7 @@ mod tests {
         [left, right].map(|points| Curve { points, ..curve.clone() })
     }
 
-    /// What docs/WORKSHOP.md warns of: the source takes a curve that comes back to within an eighth of a unit for a short line.
+    /// What docs/WORKSHOP.md warns of: a curve that comes back to within an eighth of a unit is taken for a short line.
     #[test]
     fn hairpins() {
         let lines_and_distance = |points: &[Point]| {

@@ -112,7 +112,7 @@ def box_drawn(box, frame, colour, side):
 
 
 def boxes_drawn(found, frame, colour_of, side, taken):
-    """`taken` counts the labels at a corner, so that none lies on another. Many boxes have none, which would hide all."""
+    """`taken` counts the labels at a corner, so that none lies on another. Many boxes have none: they would hide all."""
     boxes, drawn = boxes_shown(found), []
     for path, box in boxes.items():
         x, y = frame.at(box[:2])

@@ -1,4 +1,4 @@
-"""Geometry: where a point lies on the picture, how near points lie to each other, arrows along a chain, round lengths."""
+"""Geometry: where a point lies on the picture, how near points lie to each other, arrows on a chain, round lengths."""
 import math
 
 from .lists import places_of

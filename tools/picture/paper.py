@@ -45,7 +45,9 @@ def outline_rows(found, mark_of, before=""):
     told, left = told_and_left(found.outlines)
     rows = [Row(before + about_outline(outline), RED if outline.open else INK, mark=mark_of(outline.path))
             for outline in told]
-    return rows + ([Row(before + about_left(left), RED if any(outline.open for outline in left) else INK)] if left else [])
+    if left:
+        rows.append(Row(before + about_left(left), RED if any(outline.open for outline in left) else INK))
+    return rows
 
 
 def one_rows(found):
