@@ -267,12 +267,14 @@ mod tests {
         }
     }
 
-    /// Cut in two, the worst of the arches and S's is drawn well.
+    /// Cut in two, the worst of the arches and S's is drawn well, and so is a hairpin.
     #[test]
     fn halves_lie_near() {
-        for part in halves(&Curve::of(&KINDS[1], 1, 738_239)) {
-            let distance = of_side(&part, &part.sides()[0]).0;
-            assert!(distance < 0.22, "{part:?}: {distance}");
+        for curve in [Curve::of(&KINDS[1], 1, 738_239), fill(&[[0., 0.], [200., 0.], [0.1, 0.]])] {
+            for part in halves(&curve) {
+                let distance = of_side(&part, &part.sides()[0]).0;
+                assert!(distance < 0.22, "{part:?}: {distance}");
+            }
         }
     }
 
