@@ -83,9 +83,10 @@ impl Vec2 {
     pub fn mix(self, other: Vec2, t: f32) -> Vec2
         ensures { λ r. ⌜ r ≡ mixOf self other t ⌝ }
     {
-        let x = self.x + (other.x - self.x) * t;
-        let y = self.y + (other.y - self.y) * t;
-        Vec2 { x, y }
+        Vec2 {
+            x: self.x + (other.x - self.x) * t,
+            y: self.y + (other.y - self.y) * t,
+        }
     }
 
     pub fn normalize(self) -> Vec2
