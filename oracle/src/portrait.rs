@@ -90,7 +90,8 @@ pub fn draw(kind: usize, seed: u64, index: u64) -> String {
     let near = Panel { centre: place, scale: SIZE / (8. * distance) };
     let (width, height) = (2. * SIZE + 3. * MARGIN, SIZE + 5. * MARGIN);
     let right = SIZE + 2. * MARGIN;
-    let told = format!("{}: number {index} of seed {seed}, {} lines", KINDS[kind].0, chain.len() - 1);
+    let lines = if chain.len() == 2 { "1 line".into() } else { format!("{} lines", chain.len() - 1) };
+    let told = format!("{}: number {index} of seed {seed}, {lines}", KINDS[kind].0);
     let scales = [&whole, &near].map(|panel| format!("this square is {:.3} units wide", SIZE / panel.scale));
     format!(
         "<svg xmlns=\"http://www.w3.org/2000/svg\" width=\"{width}\" height=\"{height}\" viewBox=\"0 0 {width} {height}\">\n\
