@@ -1,5 +1,6 @@
 /*
- * The C interface of Hinthevoun. Link target/staticlib/libexports.a, written by `tools/staticlib exports`, and -lm.
+ * The C interface of Hinthevoun. Link target/staticlib/libexports.a, written by `tools/staticlib exports`; it asks for no
+ * other library, not even C's.
  *
  * Every function answers for every argument. None keeps state, allocates, touches memory that it is not lent or reports
  * errors in another way than by its answer. Results are meant bit for bit, with one exception: a float answer that is
@@ -43,13 +44,14 @@ float hinth_two_thirds(float x);
 float hinth_half(uint32_t word);
 
 /*
- * Trigonometry: fixed sequences of float operations, each rounded once, the same on every processor. A NaN argument
- * gives NaN. Angles are in radians; pi is the float 0x40490fdb.
+ * Trigonometry: fixed sequences of float operations, each rounded once, the same on every processor; a large angle is
+ * first reduced in whole numbers. A NaN argument gives NaN. Angles are in radians; pi is the float 0x40490fdb.
  */
 
 /*
- * The sine and the cosine: from -1 to 1, the sine odd and the cosine even bit for bit. An infinite angle gives NaN. An
- * angle of size over 1024 is first taken modulo the float 2*pi, with fmodf's meaning.
+ * The sine and the cosine: from -1 to 1, the sine odd and the cosine even bit for bit. An infinite angle gives NaN. Of
+ * every finite angle, also of size over 1024, which is reduced by pi to as many digits as that takes, they lie within
+ * 0.000001 of the true value: all floats were tried, and the worst is off by less than 0.00000015.
  */
 float hinth_sin(float x);
 float hinth_cos(float x);

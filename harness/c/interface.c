@@ -102,6 +102,8 @@ int main(void) {
     EXPECT(hinth_sin(0.0f), 0x00000000u);
     EXPECT(hinth_sin(-0.0f), 0x80000000u);
     EXPECT(hinth_cos(0.0f), 0x3f800000u);
+    EXPECT(hinth_sin(100000.0f), 0x3d126d55u);
+    EXPECT(hinth_cos(-100000.0f), 0xbf7fd61cu);
     EXPECT(hinth_atan2(-0.0f, 1.0f), 0x80000000u);
     EXPECT(hinth_atan2(1.0f, 0.0f), 0x3fc90fdbu);
     EXPECT(hinth_asin(2.0f), 0x7fc00000u);

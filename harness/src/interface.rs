@@ -15,7 +15,7 @@ pub fn header() -> Tally {
             .arg(root.join("include"))
             .arg(root.join("harness/c/interface.c"))
             .arg(root.join("target/staticlib/libexports.a"))
-            .args(["-lm", "-o"])
+            .arg("-o")
             .arg(&program),
     );
     let said = compiled.and_then(|_| output(&mut Command::new(&program)));

@@ -1,5 +1,6 @@
 //! Compares the exported functions with references that share no code with them, and times them.
 
+mod angles;
 mod bench;
 mod exact;
 mod ffi;
@@ -55,6 +56,7 @@ fn checks(extent: Extent, only: &str) -> ExitCode {
     report.check("Rust wrapper: its tests", interface::wrapper);
     roots::run(&mut report, extent);
     trig::run(&mut report, extent);
+    angles::run(&mut report, extent);
     match report.close() {
         true => ExitCode::SUCCESS,
         false => ExitCode::FAILURE,

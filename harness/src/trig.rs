@@ -6,14 +6,13 @@ use crate::random::Random;
 use crate::report::{Report, in_hex};
 use crate::roots::SPECIAL;
 use crate::sweep::{self, Tally, Words, same};
-use std::f32::consts::TAU;
 
 /// How far an answer may lie from Rust's.
 const TOLERANCE: f64 = 0.000001;
 
 const ONE: u32 = 0x3f80_0000;
 const INFINITY: u32 = 0x7f80_0000;
-/// 1,024, up to which sines and cosines are compared with Rust's.
+/// 1,024, up to which sines and cosines are compared with Rust's. Larger angles are in `angles`.
 const LIMIT: u32 = 0x4480_0000;
 /// 2^-16. For the gate: every word from here on, every 61st below, where all five are straight lines.
 const SMALL: u32 = 0x3780_0000;
@@ -27,7 +26,6 @@ pub fn run(report: &mut Report, extent: Extent) {
     let ratios = sizes_up_to(ONE, extent);
     report.check(&format!("asin: {part}, to 1"), || unary("asin", ffi::asin, f32::asin, &ratios));
     report.check(&format!("acos: {part}, to 1"), || unary("acos", ffi::acos, f32::acos, &ratios));
-    report.check("sin, cos: sizes over 1024, as after % 2π", || large_angles(extent));
     report.check("NaN from sin, cos without a finite angle, asin, acos outside -1 to 1", || outside(extent));
     report.check("atan2: special values with each other and with random words", atan2_special);
     report.check("atan2: every pair of exponents", atan2_exponents);
@@ -57,18 +55,6 @@ fn unary(name: &str, ours: impl Fn(f32) -> f32 + Sync, stock: impl Fn(f32) -> f3
     sweep::words(sets, |word, tally| {
         let x = f32::from_bits(word);
         near(name, ours(x), stock(x), &[word], tally);
-    })
-}
-
-/// Above 1,024 an angle is first taken % 2π, the size by itself: the sign goes to the sine at the end.
-fn large_angles(extent: Extent) -> Tally {
-    let step = if extent == Extent::Whole { 7 } else { 211 };
-    sweep::words(&both_signs(Words { first: LIMIT + 1, last: INFINITY - 1, step }), |word, tally| {
-        let x = f32::from_bits(word);
-        let rest = x.abs() % TAU;
-        let sine = if x < 0.0 { -ffi::sin(rest) } else { ffi::sin(rest) };
-        let holds = same(ffi::sin(x), sine) && same(ffi::cos(x), ffi::cos(rest));
-        tally.count(holds, || format!("sin or cos of {word:#010x} is not that of {:#010x}", rest.to_bits()));
     })
 }
 

@@ -29,6 +29,7 @@ fn show_angles() {
     show(b"sin(1)                 ", maths::sin(1.0));
     show(b"sin(-0)                ", maths::sin(-0.0));
     show(b"cos(0)                 ", maths::cos(0.0));
+    show(b"sin(100000)            ", maths::sin(100000.0));
     show(b"acos(0), half of pi    ", maths::acos(0.0));
     show(b"atan2(0, -1), pi       ", maths::atan2(0.0, -1.0));
     show(b"asin(2), a NaN         ", maths::asin(2.0));

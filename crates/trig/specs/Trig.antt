@@ -1,15 +1,15 @@
 -- sin, cos, atan2, asin and acos of an f32, each a fixed sequence of binary32 operations, rounded one by one. Definitions only.
-use Prim.Native.Nat.{ℕ, _+_, _%_}
+use Prim.Native.Nat.{ℕ, _+_, _-_, _*_, _/_, _%_, _^_}
 use mathlib.Core.Bool.{_||_, cond}
 use lib.IntN.{pos}
 use lib.Dec.{T, leb, eqb}
-use lib.Ieee.{Float, nan, binary32, ofInt, toUnsigned, isNan, rem, lt, le, eq}
+use lib.Ieee.{Float, nan, binary32, ofInt, toUnsigned, toBits, isNan, lt, le, eq}
 use Rattle.laws.specs.Binary32.{_⊕_, _⊖_, _⊗_, _⊘_, f32}
 use Rattle.numbers.specs.Words.{signOf, signed, absOf}
 use Rattle.roots.specs.Root.{sqrtOf}
 use Rattle.trig.specs.declared.Turn.{Turn}
 
--- ---- numbers, by their bits. π/2, π and 2π are the nearest f32: 1.57079637, 3.14159274, 6.28318548
+-- ---- numbers, by their bits. π/2 and π are the nearest f32: 1.57079637, 3.14159274
 abbrev pub zero : Float
 zero = f32 0
 
@@ -36,9 +36,6 @@ pi = f32 0x40490fdb
 
 abbrev pub minusPi : Float
 minusPi = f32 0xc0490fdb
-
-abbrev pub twoPi : Float
-twoPi = f32 0x40c90fdb
 
 abbrev pub infinity : Float
 infinity = f32 0x7f800000
@@ -70,13 +67,37 @@ quartersOf a =
     let f = ofInt binary32 (pos k) in
     record { quarters = k; rest = a ⊖ f ⊗ f32 0x3fc91000 ⊖ f ⊗ f32 0xb6957800 ⊖ f ⊗ f32 0x2e85a309 }
 
--- a large angle, above 1024, taken % 2π
-unfoldable pub withinOf : Float → Float
-withinOf a = cond (le a (f32 0x44800000)) a (rem binary32 a twoPi)
+-- 2/π to 192 binary digits, ⌊2/π · 2 ^ 192⌋: 0.a2f9836e 4e441529 fc2757d1 f534ddc0 db629599 3c439041 in hex. To check it, with
+-- any program for long numbers: twoOverPi is at most 2/π · 2 ^ 192, and twoOverPi + 1 is more
+unfoldable pub twoOverPi : ℕ
+twoOverPi = 0xa2f9836e4e441529fc2757d1f534ddc0db6295993c439041
 
--- the reduction: below 0.78125 the angle is its own rest
+-- the word of a large angle, m · 2 ^ (e - 150) with 24 digits in m: how many quarter turns it is, m · 2 ^ (e - 150) · 2/π, in units of
+-- 2 ^ -38, and half a quarter turn more. Of 2/π those digits are left out that m times makes less than one unit
+unfoldable pub unitsOf : ℕ → ℕ
+unitsOf b =
+    let m = 2 ^ 23 + b % 2 ^ 23 in
+    let e = b / 2 ^ 23 % 256 in
+    m * (twoOverPi / 2 ^ (280 - e)) / 2 ^ 24 + 2 ^ 37
+
+-- u units: the whole quarter turns in them, modulo 4, and of the f units left, less that half, the angle (f - 2 ^ 37) · 2 ^ -38 · π/2. A
+-- float has too few digits for f, so it is taken in two parts: 2 ^ 19 units are π/2 · 2 ^ -19, one is π/2 · 2 ^ -38
+unfoldable pub partedOf : ℕ → Turn
+partedOf u =
+    let f = u % 2 ^ 38 in
+    let high = ofInt binary32 (pos (f / 2 ^ 19)) in
+    let low = ofInt binary32 (pos (f % 2 ^ 19)) in
+    record { quarters = u / 2 ^ 38 % 4; rest = (high ⊖ f32 0x48800000) ⊗ f32 0x36490fdb ⊕ low ⊗ f32 0x2cc90fdb }
+
+unfoldable pub largeOf : Float → Turn
+largeOf a = partedOf (unitsOf (toBits binary32 a))
+
+-- the reduction: below 0.78125 the angle is its own rest, and above 1024 it is large
+unfoldable pub farOf : Float → Turn
+farOf a = cond (le a (f32 0x44800000)) (quartersOf a) (largeOf a)
+
 unfoldable pub reducedOf : Float → Turn
-reducedOf a = cond (lt a (f32 0x3f480000)) (record { quarters = 0; rest = a }) (quartersOf (withinOf a))
+reducedOf a = cond (lt a (f32 0x3f480000)) (record { quarters = 0; rest = a }) (farOf a)
 
 -- sin (k π/2 + r)
 unfoldable pub curveOf : ℕ → Float → Float

@@ -1,21 +1,21 @@
 // sin, cos, atan2, asin and acos of f32: fixed sequences of operations, each rounded once, as specs/Trig.antt gives them.
 ghost use mathlib.Core.Path.{_≡_};
 ghost use mathlib.Core.Bool.{cond};
-ghost use Prim.Native.Nat.{_+_, _≤_};
+ghost use Prim.Native.Nat.{_+_, _-_, _*_, _/_, _%_, _^_, _≤_};
 ghost use lib.Ieee.{nan, lt};
-ghost use Rattle.trig.specs.Trig.{infinity, boundedOf, quartersOf, reducedOf, curveOf, waveOf, sinOf, cosOf, atanNear, slopeOf, angleOf, atan2Of, asinNear, acosNear, arcSineOf, arcCosineOf, asinOf, acosOf};
+ghost use Rattle.trig.specs.Trig.{infinity, boundedOf, quartersOf, twoOverPi, unitsOf, partedOf, largeOf, farOf, reducedOf, sinNear, cosNear, waveOf, sinOf, cosOf, atanNear, slopeOf, angleOf, atan2Of, asinNear, acosNear, arcSineOf, arcCosineOf, asinOf, acosOf};
+use numbers::whole::from_u32;
 use numbers::whole::whole_part;
 use numbers::words::abs;
 use numbers::words::is_nan;
 use numbers::words::is_negative;
 use numbers::words::turned;
+use numbers::words::word_of;
 use roots::sqrt;
 
 const HALF_PI: f32 = 1.57079637;
 
 const PI: f32 = 3.14159274;
-
-const TWO_PI: f32 = 6.28318548;
 
 // v brought between lo and hi. A NaN becomes lo.
 fn bounded(lo: f32, hi: f32, v: f32) -> f32
@@ -48,69 +48,138 @@ fn quarters(a: f32) -> Turn
     }
 }
 
-fn pick(c: bool, a: f32, b: f32) -> f32
-    ensures { λ r. ⌜ r ≡ cond c a b ⌝ }
+// A word of 2/π: 160 binary digits before the point, which are 0, and 192 behind it, 32 to a word.
+fn word(i: u64) -> u64
+    ensures { λ r. ⌜ r ≡ twoOverPi / 2 ^ (32 * (10 - i)) % 2 ^ 32 ⌝ }
 {
-    if c { a } else { b }
+    match i {
+        0 | 1 | 2 | 3 | 4 => 0,
+        5 => 0xa2f9_836e,
+        6 => 0x4e44_1529,
+        7 => 0xfc27_57d1,
+        8 => 0xf534_ddc0,
+        9 => 0xdb62_9599,
+        _ => 0x3c43_9041,
+    }
 }
 
-// sin of k quarter turns and r: but for its sign, and then with it, and from -1 to 1. The polynomials of sin and cos have
-// one form, so that a choice of the numbers in it will do, and no branch that cannot be foreseen.
-fn curve(k: u32, r: f32) -> f32
-    ensures { λ v. ⌜ v ≡ curveOf k r ⌝ }
+// 32 digits of 2/π, behind so many others: they stand in two words.
+fn digits(place: u64) -> u64
+    requires { ⌜ place ≤ 319 ⌝ }
+    ensures { λ r. ⌜ r ≡ twoOverPi / 2 ^ (320 - place) % 2 ^ 32 ⌝ }
 {
-    let even = k % 2 == 0;
+    let i = place / 32;
+    let pair = word(i) * 0x1_0000_0000 + word(i + 1);
+    (pair >> (32 - place % 32)) % 0x1_0000_0000
+}
+
+// The quarter turns of a large angle and half a one more, in units of 2^-38; whole turns may be missing. Digits of 2/π before
+// these 64 give whole turns, and those behind less than one unit.
+fn units(b: u32) -> u64
+    ensures { λ u. ⌜ u % 2 ^ 40 ≡ unitsOf b % 2 ^ 40 ⌝ }
+{
+    let m = (0x80_0000 + b % 0x80_0000) as u64;
+    let e = (b / 0x80_0000 % 256) as u64;
+    m * digits(e + 8) * 256 + m * digits(e + 40) / 0x100_0000 + 0x20_0000_0000
+}
+
+// So many units as whole quarter turns and a rest, the half taken off again. Both parts of the rest are exact as f32.
+fn parted(u: u64) -> Turn
+    ensures { λ t. ⌜ t ≡ partedOf u ⌝ }
+{
+    let f = u % 0x40_0000_0000;
+    let high = from_u32((f / 0x8_0000) as u32);
+    let low = from_u32((f % 0x8_0000) as u32);
+    Turn {
+        quarters: (u / 0x40_0000_0000 % 4) as u32,
+        rest: (high - 262144.0) * 2.99605631e-6 + low * 5.71452391e-12,
+    }
+}
+
+// The same as `quarters`, for an angle above 1024.
+fn large(a: f32) -> Turn
+    ensures { λ t. ⌜ t ≡ largeOf a ⌝ }
+{
+    parted(units(word_of(a)))
+}
+
+// The sine and the cosine of an angle near 0.
+fn sin_near(r: f32) -> f32
+    ensures { λ v. ⌜ v ≡ sinNear r ⌝ }
+{
     let z = r * r;
-    let u = pick(even, -0.000194948792, -0.00135977037);
-    let v = pick(even, 0.00833205506, 0.0416564010);
-    let w = pick(even, -0.166666552, -0.499999017);
-    ((u * z + v) * z + w) * pick(even, z * r, z) + pick(even, r, 1.0)
+    ((-0.000194948792 * z + 0.00833205506) * z + -0.166666552) * (z * r) + r
 }
 
+fn cos_near(r: f32) -> f32
+    ensures { λ v. ⌜ v ≡ cosNear r ⌝ }
+{
+    let z = r * r;
+    ((-0.00135977037 * z + 0.0416564010) * z + -0.499999017) * z + 1.0
+}
+
+// sin of k quarter turns and r, from -1 to 1. All four are worked out and one is taken by its place, since no branch could be
+// foreseen.
 fn wave(k: u32, r: f32) -> f32
     ensures { λ v. ⌜ v ≡ waveOf k r ⌝ }
 {
-    bounded(-1.0, 1.0, turned(k % 4 >= 2, curve(k, r)))
+    let s = sin_near(r);
+    let c = cos_near(r);
+    let four = [s, c, -s, -c];
+    bounded(-1.0, 1.0, four[(k % 4) as usize])
 }
 
-// sin of the angle a and one quarter turn more where on is 1. The sum cannot wrap.
-fn turns(on: u32, a: f32) -> f32
+// sin of the angle t and one quarter turn more where on is 1. The sum cannot wrap.
+fn turns(on: u32, t: Turn) -> f32
     requires { ⌜ on ≤ 1 ⌝ }
-    ensures { λ v. ⌜ v ≡ waveOf (quartersOf a .quarters + on) (quartersOf a .rest) ⌝ }
+    ensures { λ v. ⌜ v ≡ waveOf (t .quarters + on) (t .rest) ⌝ }
 {
-    let t = quarters(a);
     wave(t.quarters % 4 + on, t.rest)
 }
 
-// The same for an angle that is not negative: a small one is its own rest, a large one is taken modulo 2π.
-fn sine(on: u32, a: f32) -> f32
+// The same for an angle from 0.78125 on.
+fn far(on: u32, a: f32) -> f32
     requires { ⌜ on ≤ 1 ⌝ }
-    ensures { λ v. ⌜ v ≡ cond (lt a infinity) (waveOf (reducedOf a .quarters + on) (reducedOf a .rest)) nan ⌝ }
+    ensures { λ v. ⌜ v ≡ cond (lt a infinity) (waveOf (farOf a .quarters + on) (farOf a .rest)) nan ⌝ }
 {
-    if a < 0.78125 {
-        return wave(on, a);
-    }
     if a <= 1024.0 {
-        return turns(on, a);
+        return turns(on, quarters(a));
     }
     if a < 1.0 / 0.0 {
-        return turns(on, a % TWO_PI);
+        return turns(on, large(a));
     }
     0.0 / 0.0
+}
+
+// The sine and the cosine of an angle that is not negative: a small one is its own rest.
+fn sine(a: f32) -> f32
+    ensures { λ v. ⌜ v ≡ cond (lt a infinity) (waveOf (reducedOf a .quarters) (reducedOf a .rest)) nan ⌝ }
+{
+    if a < 0.78125 {
+        return bounded(-1.0, 1.0, sin_near(a));
+    }
+    far(0, a)
+}
+
+fn cosine(a: f32) -> f32
+    ensures { λ v. ⌜ v ≡ cond (lt a infinity) (waveOf (reducedOf a .quarters + 1) (reducedOf a .rest)) nan ⌝ }
+{
+    if a < 0.78125 {
+        return bounded(-1.0, 1.0, cos_near(a));
+    }
+    far(1, a)
 }
 
 pub fn sin(x: f32) -> f32
     ensures { λ r. ⌜ r ≡ sinOf x ⌝ }
 {
-    let a = abs(x);
-    turned(is_negative(x), sine(0, a))
+    turned(is_negative(x), sine(abs(x)))
 }
 
-// cos is sin a quarter turn on.
 pub fn cos(x: f32) -> f32
     ensures { λ r. ⌜ r ≡ cosOf x ⌝ }
 {
-    sine(1, abs(x))
+    cosine(abs(x))
 }
 
 // The arc tangent of -1 to 1.

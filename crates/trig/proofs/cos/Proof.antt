@@ -7,12 +7,12 @@ use Rattle.trig.proofs.cos.Tie as tie
 abs-requires : tie.Need-abs-requires
 abs-requires c κs = search needs
 
-sine-requires : tie.Need-sine-requires
-sine-requires c κs = search needs
+cosine-requires : tie.Need-cosine-requires
+cosine-requires c κs = search needs
 
 returns : tie.Need-returns
 unfolding cosOf
-returns c = rw (c .sine .ensures, c .before .abs .ensures)
+returns c = rw (c .cosine .ensures, c .before .abs .ensures)
 
 pub cos-spec : {M : Type 1} → statement M
-cos-spec = tie.close (tie.spec abs-requires sine-requires returns)
+cos-spec = tie.close (tie.spec abs-requires cosine-requires returns)

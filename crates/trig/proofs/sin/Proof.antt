@@ -1,7 +1,6 @@
 -- `trig::sin` meets its contract. Assumes nothing.
 use mathlib.Core.Path.{_≡_, refl}
 use mathlib.Core.Bool.{Bool, true, false, cond}
-use native.Mathlib.Nat.{add-zero}
 use lib.Ieee.{Float, nan, neg}
 use Rattle.numbers.specs.Words.{signed}
 use Rattle.trig.specs.Trig.{sinOf}
@@ -16,11 +15,11 @@ apart true s v = refl
 apart false true v = refl
 apart false false v = refl
 
-abs-requires : tie.Need-abs-requires
-abs-requires c κs = search needs
-
 is-negative-requires : tie.Need-is-negative-requires
 is-negative-requires c κs = search needs
+
+abs-requires : tie.Need-abs-requires
+abs-requires c κs = search needs
 
 sine-requires : tie.Need-sine-requires
 sine-requires c κs = search needs
@@ -30,8 +29,8 @@ turned-requires c κs = search needs
 
 returns : tie.Need-returns
 unfolding sinOf
-returns c = rw (c .turned .ensures, c .before .sine .ensures, apart, add-zero, c .before .before .before .abs .ensures, c .before .before .is-negative .ensures)
+returns c = rw (c .turned .ensures, c .before .sine .ensures, apart, c .before .before .abs .ensures, c .before .before .before .is-negative .ensures)
 
 pub sin-spec : {M : Type 1} → statement M
 sin-spec =
-    tie.close (tie.spec abs-requires is-negative-requires sine-requires turned-requires returns)
+    tie.close (tie.spec is-negative-requires abs-requires sine-requires turned-requires returns)

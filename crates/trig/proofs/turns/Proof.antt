@@ -19,9 +19,6 @@ whole-turns : (k j : ℕ) (r : Float) → waveOf (k % 4 + j) r ≡ waveOf (k + j
 unfolding waveOf curveOf
 whole-turns k j r = rw (parity k j, quarter k j)
 
-quarters-requires : tie.Need-quarters-requires
-quarters-requires c κs = search needs
-
 add-wave : tie.Need-add-wave
 add-wave c = search needs
 
@@ -29,7 +26,7 @@ wave-requires : tie.Need-wave-requires
 wave-requires c κs = search needs
 
 returns : tie.Need-returns
-returns c = rw (c .wave .ensures, whole-turns, c .before .before .quarters .ensures)
+returns c = rw (c .wave .ensures, whole-turns)
 
 pub turns-spec : {M : Type 1} → statement M
-turns-spec = tie.close (tie.spec quarters-requires add-wave wave-requires returns)
+turns-spec = tie.close (tie.spec add-wave wave-requires returns)
