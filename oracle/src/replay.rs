@@ -7,6 +7,7 @@ use vello_encoding::PathBbox;
 use crate::hex::{hex, runs};
 use crate::scenes::scene;
 use crate::sheet::{FILL, hash};
+use crate::stops::Stop;
 use crate::whole::{Given, Told, scan};
 
 /// The seed of the scenes, and how many are looked at.
@@ -45,7 +46,7 @@ fn print(given: &Given, told: &Told) {
     let bases = [given.n_wg, given.tag_base, given.data_base, given.transform_base, given.style_base];
     let lent = [given.scene.len(), given.prefixes.len(), given.boxes.len(), given.lines.len(), patches.len() / 2];
     let of_scan = [scan_number, scan_count as u32, hash(&scanned)];
-    let of_call = [told.number, told.tag as u32, told.count as u32, hash(&told.lines), hash(&box_words(&told.boxes))];
+    let of_call = [told.stop.word(), told.tag as u32, told.count as u32, hash(&told.lines), hash(&box_words(&told.boxes))];
     println!("{}", hex(&[&bases[..], &lent.map(|n| n as u32), &of_scan, &of_call].concat()));
     for part in [&given.scene, &patches, &box_words(&given.boxes)] {
         if !part.is_empty() {
@@ -64,7 +65,7 @@ fn is_wanted<'a>(counts: &mut BTreeMap<&'a str, u64>, names: &[&'a str], least: 
 }
 
 /// What is told, as a name.
-const NUMBERS: [&str; 8] = ["0", "1", "2", "3", "4", "5", "6", "7"];
+const NUMBERS: [&str; 9] = ["0", "1", "2", "3", "4", "5", "6", "7", "8"];
 
 pub fn list() {
     let (mut names, mut numbers) = (BTreeMap::new(), BTreeMap::new());
@@ -73,8 +74,8 @@ pub fn list() {
         scene.given.lines.fill(FILL);
         let told = scene.given.told(0);
         let is_new = is_wanted(&mut names, &scene.names, OF_EACH_NAME);
-        let number = [NUMBERS[told.number as usize]];
-        let least = if told.number == 0 { ACCEPTED } else { OF_EACH_NUMBER };
+        let number = [NUMBERS[told.stop.number as usize]];
+        let least = if told.stop == Stop::NONE { ACCEPTED } else { OF_EACH_NUMBER };
         if fits(&scene.given) && (is_wanted(&mut numbers, &number, least) || is_new) {
             print(&scene.given, &told);
         }
