@@ -14,10 +14,10 @@ use crate::whole::{Given, Told, scan};
 const SEED: u64 = 8;
 const SCENES: u64 = 20_000;
 
-/// Every name is in so many scenes of the list, and so many are accepted, and refused with each number.
+/// Every name is in so many scenes of the list, and so many are accepted, and refused with each number and each end.
 const OF_EACH_NAME: u64 = 5;
 const ACCEPTED: u64 = 160;
-const OF_EACH_NUMBER: u64 = 30;
+const OF_EACH_STOP: u64 = 30;
 
 /// The replaying program lends no more scene words, prefix words, boxes and line words.
 const MOST: [usize; 4] = [4096, 4096, 64, 9216];
@@ -56,27 +56,23 @@ fn print(given: &Given, told: &Told) {
 }
 
 /// Whether the count of any of these is still low. Counts them if so.
-fn is_wanted<'a>(counts: &mut BTreeMap<&'a str, u64>, names: &[&'a str], least: u64) -> bool {
+fn is_wanted<Name: Copy + Ord>(counts: &mut BTreeMap<Name, u64>, names: &[Name], least: u64) -> bool {
     let is_low = names.iter().any(|name| counts.get(name).is_none_or(|count| *count < least));
     if is_low {
-        names.iter().for_each(|name| *counts.entry(name).or_default() += 1);
+        names.iter().for_each(|name| *counts.entry(*name).or_default() += 1);
     }
     is_low
 }
 
-/// What is told, as a name.
-const NUMBERS: [&str; 9] = ["0", "1", "2", "3", "4", "5", "6", "7", "8"];
-
 pub fn list() {
-    let (mut names, mut numbers) = (BTreeMap::new(), BTreeMap::new());
+    let (mut names, mut stops) = (BTreeMap::new(), BTreeMap::new());
     for index in 0..SCENES {
         let mut scene = scene(SEED, index);
         scene.given.lines.fill(FILL);
         let told = scene.given.told(0);
         let is_new = is_wanted(&mut names, &scene.names, OF_EACH_NAME);
-        let number = [NUMBERS[told.stop.number as usize]];
-        let least = if told.stop == Stop::NONE { ACCEPTED } else { OF_EACH_NUMBER };
-        if fits(&scene.given) && (is_wanted(&mut numbers, &number, least) || is_new) {
+        let least = if told.stop == Stop::NONE { ACCEPTED } else { OF_EACH_STOP };
+        if fits(&scene.given) && (is_wanted(&mut stops, &[told.stop.word()], least) || is_new) {
             print(&scene.given, &told);
         }
     }
