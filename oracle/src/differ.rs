@@ -6,6 +6,7 @@ use published::ours::Ours;
 use crate::scenes::scene;
 use crate::sheet::Sheet;
 use crate::shrink::shrink;
+use crate::stops::Stop;
 use crate::whole::{Given, Main};
 
 /// A name, ours, and std's.
@@ -74,6 +75,9 @@ pub fn show_calls() {
     show_call("other lines than with std's mathematics", &lines_differ);
     show_call("accepted by the Rust without overflow checks", &address_wraps);
     for number in 1..=8 {
-        show_call(&format!("refusal {number}"), &|given| given.told(0).stop.number == number);
+        let ends = if number == 5 { 1..=2 } else { 0..=0 };
+        for stop in ends.map(|end| Stop { number, end }) {
+            show_call(&format!("refusal {number}, end {}", stop.end), &|given| given.told(0).stop == stop);
+        }
     }
 }
