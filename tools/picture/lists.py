@@ -19,9 +19,10 @@ REFUSALS = {
     2: "a read falls outside the scene, or an address passes 2^32 - 1",
     3: "a needed tag prefix is missing",
     4: "a path tag names a box that is not there",
-    5: "a line has a coordinate that is not a number, or a curve's subdivision count is none",
+    5: "a line has a coordinate that is not a number",
     6: "no room for the next line",
     7: "the join bits are 3 and a join is drawn",
+    8: "the count of a curve's pieces is not a number",
 }
 
 
@@ -150,7 +151,7 @@ def check_sheet(name, data):
 def answer_of(name, row):
     """How many lines the first row promises, None at a refusal; and the refusal."""
     counted = re.fullmatch(b"lines ([0-9]{1,10})", row)
-    refused = re.fullmatch(b"refused ([1-7]) at ([0-9]{1,20})", row)
+    refused = re.fullmatch(b"refused ([1-8]) at ([0-9]{1,20})", row)
     if counted:
         return int(counted[1]), ""
     if refused:
