@@ -14,7 +14,7 @@ TEXT = bytes([9, 10, 13, *range(32, 127)])
 
 def is_text(first: bytes) -> bool:
     """Whether a file that begins so is meant as text. Packed words begin with a small number, which has a zero byte."""
-    return not first[:9].translate(None, TEXT)
+    return not first[:4].translate(None, TEXT)
 
 
 def in_order(words: "array[int]") -> "array[int]":

@@ -1,9 +1,10 @@
-"""Saying: what was found in lists, in sentences that go to the picture and to standard error."""
+"""Telling: what was found in lists, in sentences that go to the picture and to standard error."""
 from itertools import zip_longest
 
+from ..columns import finite_points, place_of
+from ..saying import count
 from .counting import shared_and_alone
 from .geometry import greatest_gap
-from .lists import count, finite_points, place_of
 
 # Of more outlines than this those with open points have a sentence of their own first, and the rest share one.
 MOST_OUTLINES = 40

@@ -3,10 +3,12 @@ from collections import Counter
 from itertools import accumulate, groupby, repeat
 from xml.sax.saxutils import escape
 
+from ..columns import finite_points, place_of, places_of
+from ..saying import count
+from . import ink
 from .counting import boxes_shown, chains_of, shared_and_alone
 from .geometry import Frame, heads_along
-from .lists import count, finite_points, place_of, places_of
-from .saying import MOST_OUTLINES, shown
+from .telling import MOST_OUTLINES, shown
 
 # Okabe and Ito's colours, which people with colour blindness can tell apart, but for the yellow, which white paper
 # hides, and the vermilion, which is too near to the red of the rings.
@@ -140,19 +142,36 @@ def rings_drawn(found, frame, radius):
     return inked(rings, RED, 2, ' pointer-events="all"')
 
 
+def shade(outline, rule, frame, colour):
+    """What a fill of the path inks. It is one element, since an opening is one only beside its outline."""
+    loops = ink.loops_of(ink.chains_of(outline))
+    parts = [f'M{" ".join(map(pair, frame.all_at(loop)))}z' for loop in loops]
+    return (f'<g fill="{colour}" fill-opacity="0.3" class="ink"><path fill-rule="{rule.replace("-", "")}" '
+            f'd="{"".join(parts)}"><title>path {outline.path}, ink by the {rule} rule</title></path></g>\n')
+
+
+def ink_drawn(found, frame, colour_of):
+    return [shade(outline, ink.rule_of(found, outline.path), frame, colour_of(outline.path))
+            for outline in found.outlines if outline.lines.paths and ink.is_inked(outline)]
+
+
 def path_colour(path):
     return PALETTE[path % len(PALETTE)]
 
 
-def one_drawn(found, frame, arrows):
-    drawn = boxes_drawn(found, frame, path_colour, 0, Counter())
+def one_drawn(found, frame, wishes):
+    arrows = wishes.arrows
+    drawn = ink_drawn(found, frame, path_colour) if wishes.ink else []
+    drawn += boxes_drawn(found, frame, path_colour, 0, Counter())
     drawn += [lines_drawn(outline.lines, frame, path_colour(outline.path), 2, f"path {outline.path}", arrows)
               for outline in found.outlines]
     return drawn + [rings_drawn(found, frame, 8)]
 
 
-def two_drawn(first, second, frame, arrows):
-    drawn, taken = [], Counter()
+def two_drawn(first, second, frame, wishes):
+    arrows, drawn, taken = wishes.arrows, [], Counter()
+    for side, found in enumerate((first, second)):
+        drawn += ink_drawn(found, frame, lambda path, side=side: ALONE[side][0]) if wishes.ink else []
     for side, found in enumerate((first, second)):
         drawn += boxes_drawn(found, frame, lambda path, side=side: ALONE[side][0], side, taken)
     for side, (found, other) in enumerate(((first, second), (second, first))):

@@ -1,7 +1,7 @@
 """Geometry: where a point lies on the picture, how near points lie to each other, arrows on a chain, round lengths."""
 import math
 
-from .lists import places_of
+from ..columns import places_of
 
 LONGEST = 800  # of the drawing, in the picture's units
 STRIDE = 90  # from arrow to arrow

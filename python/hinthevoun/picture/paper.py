@@ -5,20 +5,25 @@ from typing import NamedTuple, Optional
 from .drawing import (ALONE, GREY, INK, RED, SHARED, frame_of, inked, one_drawn, pair, path_colour, rectangle, text,
                       two_drawn, way)
 from .geometry import round_length
-from .saying import about_boxes, about_left, about_lines, about_outline, lacks_of, notes_of, shown, told_and_left
+from .ink import is_inked, rule_of
+from .telling import about_boxes, about_left, about_lines, about_outline, lacks_of, notes_of, shown, told_and_left
 
 MARGIN, ROW, SWATCH = 30, 20, 34
 LONGEST_BAR = 200
 
 
 class Wishes(NamedTuple):
-    """What is asked of a picture: how many millimetres a unit has, if that is known, and whether arrows are drawn."""
+    """What is asked of a picture: how many millimetres a unit has, if that is known, whether arrows are drawn, and
+    whether what a fill inks is shaded."""
+
     millimetres: Optional[float] = None
     arrows: bool = False
+    ink: bool = False
 
 
 class Row(NamedTuple):
     """A row of text; the mark before it is drawn around the middle of its place."""
+
     words: str
     fill: str = INK
     weight: str = "normal"
@@ -41,22 +46,31 @@ def head_of(lists):
     return rows
 
 
-def outline_rows(found, mark_of, before=""):
+def about_ink(found, outline):
+    """By which rule a path is shaded, behind what is said of its lines."""
+    if not outline.lines.paths:
+        return ""
+    if not is_inked(outline):
+        return "; no ink is shown, since a coordinate is infinite"
+    return f"; ink by the {rule_of(found, outline.path)} rule" + (", as if it were closed" if outline.open else "")
+
+
+def outline_rows(found, wishes, mark_of, before=""):
     told, left = told_and_left(found.outlines)
-    rows = [Row(before + about_outline(outline), RED if outline.open else INK, mark=mark_of(outline.path))
-            for outline in told]
+    rows = [Row(before + about_outline(outline) + (about_ink(found, outline) if wishes.ink else ""),
+                RED if outline.open else INK, mark=mark_of(outline.path)) for outline in told]
     if left:
         rows.append(Row(before + about_left(left), RED if any(outline.open for outline in left) else INK))
     return rows
 
 
-def one_rows(found):
-    return outline_rows(found, lambda path: sample((path_colour(path), 2)))
+def one_rows(found, wishes):
+    return outline_rows(found, wishes, lambda path: sample((path_colour(path), 2)))
 
 
-def two_rows(first, second):
-    rows = outline_rows(first, lambda _: sample(ALONE[0]), "first, ")
-    rows += outline_rows(second, lambda _: sample(ALONE[1]), "second, ")
+def two_rows(first, second, wishes):
+    rows = outline_rows(first, wishes, lambda _: sample(ALONE[0]), "first, ")
+    rows += outline_rows(second, wishes, lambda _: sample(ALONE[1]), "second, ")
     marks = sample(*SHARED), sample(ALONE[0]), sample(ALONE[1])
     rows += [Row(words, mark=mark) for words, mark in zip(about_lines(first, second), marks)]
     return rows + [Row(about_boxes(first, second)), Row("larger rings are the first's", GREY)]
@@ -74,6 +88,9 @@ def key_rows(frame, wishes):
     circle = inked([f'<circle cx="{SWATCH // 2 - 3}" cy="0" r="7"/>'], RED, 2)
     rows = [Row("box of a path", GREY, mark=dashes),
             Row("open point: not a start as often as an end", GREY, mark=circle)]
+    if wishes.ink:
+        mark = f'<g fill="{GREY}" fill-opacity="0.3">{rectangle((4, -6), (SWATCH - 10, 6))}</g>'
+        rows.append(Row("ink: what a fill of the path covers, by its own rule", GREY, mark=mark))
     if wishes.arrows:
         head = f'<g fill="{GREY}">{way((20, 0), (8, 5), (8, -5), end="z")}</g>'
         rows.append(Row("the way a line runs, from start to end", GREY, mark=head))
@@ -114,9 +131,9 @@ def picture_of(lists, wishes):
     """The picture of one list, or of two."""
     frame, head = frame_of(lists), head_of(lists)
     if len(lists) == 1:
-        drawn, legend = one_drawn(*lists, frame, wishes.arrows), one_rows(*lists)
+        drawn, legend = one_drawn(*lists, frame, wishes), one_rows(*lists, wishes)
     else:
-        drawn, legend = two_drawn(*lists, frame, wishes.arrows), two_rows(*lists)
+        drawn, legend = two_drawn(*lists, frame, wishes), two_rows(*lists, wishes)
     legend += key_rows(frame, wishes)
     top = MARGIN + ROW * len(head) + MARGIN
     below = top + frame.height + MARGIN
