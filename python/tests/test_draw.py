@@ -461,7 +461,7 @@ class Samples(unittest.TestCase):
         same(run_draw("-", data=TRIANGLE[:-1].encode()).out, run_draw("-", data=TRIANGLE.encode()).out)
 
     def test_the_readmes_picture_is_what_is_drawn(self):
-        result = run_draw("--mm", "0.5", "--arrows", "samples/socket.lines")
+        result = run_draw("--mm", "0.5", "--arrows", "--ink", "samples/socket.lines")
         same((result.status, len(result.lines()), result.rings()), (0, 112, []))
         assert result.out == (ROOT / "docs/figures/socket.svg").read_bytes(), "docs/figures/socket.svg is another picture"
 

@@ -1,6 +1,6 @@
 """The sheet of paper: a head of sentences, the drawing with its scale bar, and beside it the legend."""
 import math
-from typing import NamedTuple, Optional
+from typing import List, NamedTuple, Optional, Tuple
 
 from .drawing import (ALONE, GREY, INK, RED, SHARED, frame_of, inked, one_drawn, pair, path_colour, rectangle, text,
                       two_drawn, way)
@@ -10,6 +10,7 @@ from .telling import about_boxes, about_left, about_lines, about_outline, lacks_
 
 MARGIN, ROW, SWATCH = 30, 20, 34
 LONGEST_BAR = 200
+STYLE = "path, circle { vector-effect: non-scaling-stroke }"
 
 
 class Wishes(NamedTuple):
@@ -127,8 +128,18 @@ def rows_drawn(rows, x, y):
     return drawn
 
 
-def picture_of(lists, wishes):
-    """The picture of one list, or of two."""
+class Paper(NamedTuple):
+    """A picture before it is one: its size, where the drawing lies on it, the drawing, and the words around it."""
+
+    width: int
+    height: int
+    area: Tuple[float, float, float, float]
+    drawing: List[str]
+    words: List[str]
+
+
+def paper_of(lists, wishes):
+    """The paper of one list, or of two."""
     frame, head = frame_of(lists), head_of(lists)
     if len(lists) == 1:
         drawn, legend = one_drawn(*lists, frame, wishes), one_rows(*lists, wishes)
@@ -141,9 +152,16 @@ def picture_of(lists, wishes):
     beside = MARGIN + max(frame.width, LONGEST_BAR + 3 * MARGIN) + 2 * MARGIN  # labels and the bar need room
     width = math.ceil(max(MARGIN + width_of(head), beside + width_of(legend)) + MARGIN)
     height = math.ceil(max(below, top + ROW * len(legend)) + MARGIN)
+    area = MARGIN / 2, top - MARGIN, frame.width + MARGIN, frame.height + 2 * MARGIN
+    drawing = [f'<g id="drawing" transform="translate({pair((MARGIN, top))})">', *drawn, "</g>", bar]
+    return Paper(width, height, area, drawing, rows_drawn(head, MARGIN, MARGIN) + rows_drawn(legend, beside, top))
+
+
+def picture_of(lists, wishes):
+    """The picture of one list, or of two."""
+    paper = paper_of(lists, wishes)
+    width, height = paper.width, paper.height
     return "\n".join([
         f'<svg xmlns="http://www.w3.org/2000/svg" width="{width}" height="{height}" viewBox="0 0 {width} {height}">',
-        "<style>path, circle { vector-effect: non-scaling-stroke }</style>",
-        f'<rect width="{width}" height="{height}" fill="white"/>', *rows_drawn(head, MARGIN, MARGIN),
-        f'<g id="drawing" transform="translate({pair((MARGIN, top))})">', *drawn, "</g>", bar,
-        *rows_drawn(legend, beside, top), "</svg>", ""])
+        f"<style>{STYLE}</style>", f'<rect width="{width}" height="{height}" fill="white"/>', *paper.drawing,
+        *paper.words, "</svg>", ""])
