@@ -98,6 +98,8 @@ def wrong_row(name: str, before: int, text: bytes, is_last: bool) -> Wrong:
 
 def about_row(row: bytes, is_last: bool) -> str:
     """Why a row is no word, and the cure."""
+    if b"\r" in row[:-1]:
+        return r"the lines end in CR alone; `tr '\r' '\n'` makes that LF, as it must be"
     if row.endswith(b"\r"):
         return r"the line has Windows' end, CR LF; `tr -d '\r'` makes it LF, as it must be"
     if WORD.fullmatch(row.lower()):

@@ -247,6 +247,91 @@ class Chains(unittest.TestCase):
         same(len(draw(listed(apart[:5000])).rings()), 10_000)
 
 
+def square(path, low, high, turned=False):
+    """The four lines of a square."""
+    corners = [(low, low), (high, low), (high, high), (low, high)]
+    corners = corners[::-1] if turned else corners
+    return [record(path, *start, *end) for start, end in zip(corners, corners[1:] + corners[:1])]
+
+
+def turns(loops, place):
+    """How often the loops run around a place: each crossing of the ray to its right counts by its way."""
+    x, y = place
+    count = 0
+    for loop in loops:
+        for (x0, y0), (x1, y1) in zip(loop, loop[1:] + loop[:1]):
+            if (y0 <= y) != (y1 <= y) and x0 + (y - y0) / (y1 - y0) * (x1 - x0) > x:
+                count += 1 if y1 > y0 else -1
+    return count
+
+
+def inked(rows, *places):
+    """Whether each place is inked in the picture, by path: the rule that its element names, over its loops."""
+    result = draw(rows, options=["--ink"])
+    answers = []
+    for group in result.picture.find(f"{SVG}g[@id='drawing']").findall(f"{SVG}g[@class='ink']"):
+        path = group.find(f"{SVG}path")
+        ways = path.get("d").split("M")[1:]
+        assert all(way.endswith("z") for way in ways), ways
+        counts = [turns([places_in(way[:-1]) for way in ways], place) for place in places]
+        answers.append([bool(n % 2 if path.get("fill-rule") == "evenodd" else n) for n in counts])
+    return answers
+
+
+class Ink(unittest.TestCase):
+    """What a fill inks. The squares' picture is 64 times as large, from their corner on."""
+
+    middle, rim, outside = (5 * 64, 5 * 64), (1 * 64, 1 * 64), (-5, 5)
+
+    def shades(self, inner_turned, flags):
+        lines = square(0, 0, 10) + square(0, 3, 7, inner_turned)
+        return inked(listed(lines, f"box 0 0 10 10 {flags} 0"), self.middle, self.rim, self.outside)
+
+    def test_an_opening_is_open_or_solid_by_the_paths_rule(self):
+        same(self.shades(False, 0), [[True, True, False]])
+        same(self.shades(True, 0), [[False, True, False]])
+        same(self.shades(False, 1), [[False, True, False]])
+        same(self.shades(True, 1), [[False, True, False]])
+
+    def test_only_the_lowest_flag_is_the_rule(self):
+        same(self.shades(False, 2), [[True, True, False]])
+
+    def test_each_path_has_its_own_rule(self):
+        lines = [line for path in (0, 1) for line in square(path, 0, 10) + square(path, 3, 7)]
+        boxes = ["box 0 0 10 10 1 0", "box 0 0 10 10 0 0"]
+        same(inked(listed(lines, *boxes), self.middle), [[False], [True]])
+        same(inked(listed(lines), self.middle), [[True], [True]])
+
+    def test_the_order_of_the_lines_does_not_count(self):
+        lines = square(0, 0, 10) + square(0, 3, 7)
+        random.Random(2).shuffle(lines)
+        same(inked(listed(lines, "box 0 0 10 10 1 0"), self.middle, self.rim), [[False, True]])
+
+    def test_a_gap_of_a_last_bit_is_closed_where_it_is(self):
+        """A square of four sides, each a bit away from the next, around another."""
+        near = [record(0, 0.0, 1e-6, 10, 0), record(0, 10, 1e-6, 10, 10), record(0, 10 - 1e-5, 10, 0, 10),
+                record(0, 1e-6, 10, 0, 0)]
+        same(inked(listed(near, "box 0 0 10 10 0 0"), self.middle, self.rim, self.outside), [[True, True, False]])
+        same(inked(listed(near + square(0, 3, 7, True), "box 0 0 10 10 0 0"), self.middle, self.rim), [[False, True]])
+
+    def test_an_open_outline_is_shaded_as_if_it_were_closed(self):
+        rows = listed(square(0, 0, 10)[:3], "box 0 0 10 10 0 0")
+        same(inked(rows, self.middle, self.outside), [[True, False]])
+        words = [text.text for text in draw(rows, options=["--ink"]).picture.iter(f"{SVG}text")]
+        holds(words, "path 0: 3 lines, 2 open points, each within about 10 of another; "
+                     "ink by the nonzero rule, as if it were closed")
+
+    def test_without_the_option_nothing_is_shaded_and_a_line_to_infinity_has_no_ink(self):
+        assert b"ink" not in draw(TRIANGLE).out
+        result = draw(listed([*square(0, 0, 10), record(0, 0, 0, INFINITY, 0)], BOX), options=["--ink"])
+        same((result.status, result.marks("ink")), (1, []))
+        holds(" ".join(text.text for text in result.picture.iter(f"{SVG}text")),
+              "; no ink is shown, since a coordinate is infinite")
+
+    def test_two_lists_are_both_shaded(self):
+        same(len(draw(TRIANGLE, TRIANGLE, options=["--ink"]).marks("ink")), 2)
+
+
 class BarAndArrows(unittest.TestCase):
     """The scale bar and the arrows."""
 

@@ -71,7 +71,7 @@ def tag_rows(sheet: Sheet, kinds: "Counter[int]") -> Iterator[Row]:
 def subpath_rows(sheet: Sheet, tags: bytes) -> Iterator[Row]:
     """The subpaths of fills and of strokes, closed and open."""
     found = Counter(subpaths_of(sheet, tags))
-    for stroked, what in ((False, "filled"), (True, "stroked"), (None, "without a style")):
+    for stroked, what in ((False, "filled"), (True, "stroked"), (None, "no style")):
         closed, opened, unknown = (found[stroked, closed] for closed in (True, False, None))
         if closed or opened or unknown:
             rest = f", {unknown:,} without an end or with points missing" if unknown else ""

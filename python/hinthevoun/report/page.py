@@ -20,6 +20,7 @@ h1 { font-size: 1.4em } h2 { font-size: 1.1em; margin: 0 }
 .card.large { position: fixed; inset: 0; z-index: 1; overflow: auto; border: 0; border-radius: 0 }
 .card.large .picture { cursor: zoom-out } .card.large svg { height: calc(100vh - 11em) }
 .card:not(.large) .words { display: none }
+.behind { overflow: hidden }
 .hint { color: #555 }
 @media print { .card { break-inside: avoid } }
 """
@@ -31,6 +32,8 @@ function show(card, large) {
   card.classList.toggle('large', large);
   button.setAttribute('aria-expanded', large);
   svg.setAttribute('viewBox', large ? svg.dataset.whole : svg.dataset.drawing);
+  svg.setAttribute('preserveAspectRatio', large ? 'xMinYMin meet' : 'xMidYMid meet');
+  document.body.classList.toggle('behind', large);
 }
 document.addEventListener('click', event => {
   const button = event.target.closest('.picture');
