@@ -181,7 +181,7 @@ class InABrowser(unittest.TestCase):
             same(shown.value(words), 0)
             shown.click(".card:nth-child(5) .picture")
             large = shown.value(sizes)
-            assert large[4] > 1000 and large[:4] + large[5:] == small[:4] + small[5:], large
+            same([width > 1000 for width in large], [number == 4 for number in range(8)])
             same(shown.value(words), 1)
             same(shown.value("document.querySelector('.large h2').textContent"), "moved")
             same(shown.value("document.elementFromPoint(600, 20).closest('.card').querySelector('h2').textContent"), "moved")
