@@ -58,7 +58,7 @@ def flatten(n_wg: int, tag_base: int, data_base: int, transform_base: int, style
     Raises Refusal where the library refuses. The lines before it stand then: `count` says how many.
     """
     numbers = zip(Layout._fields, (n_wg, tag_base, data_base, transform_base, style_base))
-    out = (ctypes.c_uint64 * 3)()  # a library of before the third word leaves it at 0
+    out = (ctypes.c_uint64 * 3)()
     with ExitStack() as stack:
         lent = _lent(stack, {"scene": scene, "prefixes": prefixes}, {"boxes": boxes, "lines": lines})
         room = [*_words(lent[0]), *_words(lent[1]), lent[2].address, lent[2].size // 4 // WORDS_OF_A_BOX,

@@ -9,7 +9,7 @@ import unittest
 from pathlib import Path
 
 from oracle_sheets import sheets
-from support import PACKAGE, ROOT, SOCKET_LINES, SOCKET_SHEET, TRIANGLE_SHEET, hinth, packed, same
+from support import PACKAGE, ROOT, SOCKET_LINES, SOCKET_SHEET, TRIANGLE_SHEET, hinth, holds, packed, same
 
 sys.path.insert(0, str(PACKAGE))
 
@@ -20,13 +20,15 @@ ROOM = "1000"  # lines that flatlist has room for
 
 RUN_ALL = """. tools/kit.sh
 made target/bin/flatlist flatlist rt check flatlist
-for sheet in "$1"/*.sheet; do start target/bin/flatlist <"$sheet" >"${sheet%.sheet}.flatlist" || exit; done"""
+for sheet in "$1"/*.sheet; do
+    start target/bin/flatlist <"$sheet" >"${sheet%.sheet}.flatlist" 2>"${sheet%.sheet}.said" || exit
+done"""
 
 
 def flatten(*arguments):
-    """The command in this process, which is quicker: how it ended."""
-    with contextlib.redirect_stderr(io.StringIO()):
-        return main(["flatten", *map(str, arguments)])
+    """The command in this process, which is quicker: how it ended, and what it said."""
+    with contextlib.redirect_stderr(io.StringIO()) as said:
+        return main(["flatten", *map(str, arguments)]), said.getvalue()
 
 
 def text_of(data):
@@ -61,14 +63,15 @@ class Beside(unittest.TestCase):
         """Each sheet with flatlist's answer and the command's, with these options."""
         out = self.folder / "out"
         for place, expected in sorted(self.answers.items()):
-            status = flatten(*options, "--keep", place, "-o", out)
+            status, said = flatten(*options, "--keep", place, "-o", out)
+            holds(said, place.with_suffix(".said").read_text().strip())
             check(place.name, expected, status, out.read_bytes())
 
     def test_there_are_enough_and_of_every_kind(self):
         firsts = [answer.split(b" ")[0:2] for answer in self.answers.values()]
         assert len(firsts) >= FEWEST + 2, len(firsts)
         refusals = {int(first[1]) for first in firsts if first[0] == b"refused"}
-        assert {1, 2, 4, 5, 6, 7} <= refusals, refusals
+        assert {1, 2, 4, 5, 6, 7, 8} <= refusals, refusals
         assert sum(first[0] == b"lines" for first in firsts) > 100
 
     def test_with_flatlists_room_all_is_the_same(self):

@@ -112,8 +112,12 @@ class Refused(unittest.TestCase):
                    "a read falls outside the scene, or an address passes 2^32 - 1; a point, transform or style is missing")
         self.check(triangle(boxes=0), "refused 4 at 5", "refused 4 at tag 5 (line 8, third pair of digits): "
                    "a path tag names a box that is not there; raise the sheet's sixth word")
-        self.check(triangle(flags="80000000", width="7fc00000"), "refused 5 at 2", "refused 5 at tag 2 (line 7, ",
-                   "not a number", "; redraw that piece")
+        for name, number, why in (("transform", 5, "the start of a line is not a number; look at the transform first"),
+                                  ("point", 5, "the end of a line is not a number; a point is damaged"),
+                                  ("curve", 8, "the count of a curve's pieces is not a number; a point is damaged"),
+                                  ("width", 8, "the count of a curve's pieces is not a number; a point is damaged")):
+            self.check((ROOT / f"samples/broken-{name}.sheet").read_text(), f"refused {number} at 2",
+                       f"refused {number} at tag 2 (line 7, second pair of digits): {why}")
         self.check(TRIANGLE, "refused 6 at 4", "more than the 2 lines that --room gives; give more",
                    options=["--room", "2"])
         self.check(triangle(flags="b0000000", width="3f800000"), "refused 7 at 2",

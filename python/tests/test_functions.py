@@ -15,7 +15,7 @@ import hinthevoun  # noqa: E402
 from hinthevoun import Layout, Refusal  # noqa: E402
 from hinthevoun.buffers import Lent  # noqa: E402
 from hinthevoun.library import load  # noqa: E402
-from hinthevoun.refusals import REASONS  # noqa: E402
+from hinthevoun.refusals import ENDS, REASONS  # noqa: E402
 
 
 def parts_of(sheet):
@@ -126,28 +126,35 @@ class Refusals(unittest.TestCase):
                 (triangle(tags="01014000"), {}, (2, 2, 0)),
                 (TRIANGLE, {"prefix_words": 3}, (3, 0, 0)),
                 (triangle(boxes=0), {}, (4, 5, 3)),
-                (triangle(flags="80000000", width=nan), {}, (5, 2, 0)),
+                (triangle(flags="80000000", width=nan), {}, (8, 2, 0)),
+                ((ROOT / "samples/broken-transform.sheet").read_text(), {}, (5, 2, 0)),
                 (TRIANGLE, {"room": 2}, (6, 4, 2)),
                 (triangle(flags="b0000000", width="3f800000"), {}, (7, 2, 2))):
             refusal = refused(lambda sheet=sheet, more=more: called(sheet, **more))
             same((refusal.number, refusal.tag, refusal.count), expected)
-            same(str(refusal), f"refused {refusal.number} at tag {refusal.tag}: {REASONS[refusal.number].why}")
+            why = (REASONS[refusal.number] if refusal.number != 5 else ENDS[1]).why
+            same(str(refusal), f"refused {refusal.number} at tag {refusal.tag}: {why}")
 
     def test_the_sentences_are_those_of_the_paper(self):
         page = (ROOT / "docs/FLATLIST.md").read_text()
         table = {int(number): why for number, why in re.findall(r"^\| ([0-9]+) \| (.*) \|$", page, re.M)}
-        same({number: REASONS[number].why for number in table}, table)
-        same([number for number in REASONS if number not in table and number != 8], [])
+        same({number: reason.why for number, reason in REASONS.items()}, table)
 
     def test_each_has_a_cure(self):
         for number, reason in REASONS.items():
             assert reason.why and reason.cure, number
-            same(Refusal(number, 7).cure, reason.cure)
+            same(Refusal(number, 7).reason, reason)
 
     def test_the_end_at_fault_is_told(self):
-        holds(str(Refusal(5, 3, 0, 1)), "(the line's start)")
-        holds(str(Refusal(5, 3, 0, 2)), "(the line's end)")
-        assert "the line's" not in str(Refusal(5, 3)), str(Refusal(5, 3))
+        for name, number, end, why in (("transform", 5, 1, "the start of a line is not a number"),
+                                       ("point", 5, 2, "the end of a line is not a number"),
+                                       ("curve", 8, 0, "the count of a curve's pieces is not a number"),
+                                       ("width", 8, 0, "the count of a curve's pieces is not a number")):
+            sheet = (ROOT / f"samples/broken-{name}.sheet").read_text()
+            refusal = refused(lambda sheet=sheet: called(sheet))
+            same((name, refusal.number, refusal.tag, refusal.end), (name, number, 2, end))
+            same(str(refusal), f"refused {number} at tag 2: {why}")
+            assert refusal.reason.cure
 
     def test_one_that_is_not_known_is_still_told(self):
         holds(str(Refusal(99, 1)), "refused 99 at tag 1: ")

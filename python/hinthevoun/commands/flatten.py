@@ -28,7 +28,7 @@ Examples:
 
   hinth flatten samples/socket.sheet                     the list on the terminal
   hinth flatten samples/socket.sheet -o socket.lines     the same in a file
-  hinth flatten --binary big.sheet -o big.list           packed words: a quarter of the time, and half the size
+  hinth flatten --binary big.sheet -o big.list           packed words: half the size
   encoder | hinth flatten - | hinth draw - -o a.svg      from one program to the next
 
 On standard output the answer is flatlist's, byte for byte, refused or not: `lines N` or `refused R at T`, six words a
@@ -76,7 +76,7 @@ def about_refusal(sheet: Sheet, answer: Answer, room: Optional[int]) -> str:
         why = f"more than the {answer.room:,} lines that " + (
             "this machine has memory for; part the drawing" if room is None else "--room gives; give more")
     else:
-        why = f"{refusal.why}; {refusal.cure}"
+        why = f"{refusal.reason.why}; {refusal.reason.cure}"
     return f"{sheet.name}: refused {refusal.number} at tag {refusal.tag:,}{where}: {why}"
 
 
