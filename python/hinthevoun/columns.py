@@ -65,7 +65,8 @@ def places_of(points: "array[int]") -> Tuple[array, array]:
 
 def place_of(point: int) -> Tuple[float, float]:
     """The x and y of one point."""
-    return struct.unpack(">2f", struct.pack(">Q", point))
+    x, y = struct.unpack(">2f", struct.pack(">Q", point))
+    return x, y
 
 
 def finite_points(points: Iterable[int]) -> List[int]:

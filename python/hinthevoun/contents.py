@@ -42,7 +42,8 @@ def words_at(sheet: Sheet, at: int, count: int) -> Optional[Tuple[int, ...]]:
 
 def walks_of(sheet: Sheet, tags: bytes) -> Iterator[Walk]:
     """The subpaths, as their tags and points lie one behind the other."""
-    at, style, walk = sheet.layout.data_base, -1, None
+    at, style = sheet.layout.data_base, -1
+    walk: Optional[Walk] = None
     for tag in tags:
         width = 2 if tag & F32 else 1
         if tag & TYPE:
@@ -76,12 +77,12 @@ def subpaths_of(sheet: Sheet, tags: bytes) -> List[Subpath]:
 
 def number(word: int) -> str:
     """An f32, told by nine digits, which tell it from every other."""
-    return "%.9g" % struct.unpack("<f", struct.pack("<I", word))
+    return f"{struct.unpack('<f', struct.pack('<I', word))[0]:.9g}"
 
 
 def limit(word: int) -> str:
     """A binary16."""
-    return "%g" % struct.unpack("<e", struct.pack("<H", word & 0xffff))
+    return f"{struct.unpack('<e', struct.pack('<H', word & 0xffff))[0]:g}"
 
 
 def about_style(flags: int, width: int) -> str:

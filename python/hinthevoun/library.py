@@ -6,9 +6,10 @@ import shutil
 import subprocess
 import sys
 from pathlib import Path
-from typing import List, Optional
+from typing import Any, Dict, List, Optional
 
 from .errors import NoLibrary
+from .saying import say
 
 NAME = "libhinthevoun.so"
 VARIABLE = "HINTHEVOUN_LIBRARY"
@@ -18,14 +19,17 @@ HERE = Path(__file__).resolve().parent
 builder: Optional[Path] = None
 
 _WORD, _SIZE, _LIST, _FLOAT = ctypes.c_uint32, ctypes.c_size_t, ctypes.c_void_p, ctypes.c_float
-_LENT = [_LIST, _SIZE]
+_LENT: List[Any] = [_LIST, _SIZE]
 # include/hinthevoun.h, argument by argument.
-_CALLS = {
+_CALLS: Dict[str, List[Any]] = {
     "hinth_scan": [*_LENT, _WORD, *_LENT, *_LENT],
     "hinth_flatten": [*[_WORD] * 5, *_LENT, *_LENT, *_LENT, *_LENT, *_LENT],
 }
-_MATHS = {name: [_FLOAT] for name in ("sqrt", "cbrt", "two_thirds", "sin", "cos", "asin", "acos")}
-_MATHS.update(hypot=[_FLOAT, _FLOAT], atan2=[_FLOAT, _FLOAT], half=[_WORD])
+_MATHS: Dict[str, List[Any]] = {
+    **{name: [_FLOAT] for name in ("sqrt", "cbrt", "two_thirds", "sin", "cos", "asin", "acos")},
+    **{name: [_FLOAT, _FLOAT] for name in ("hypot", "atan2")},
+    "half": [_WORD],
+}
 
 
 def places() -> List[Path]:
@@ -48,10 +52,9 @@ def build() -> None:
         return
     missing = find() is None
     if missing:
-        print("hinth: the library is not there yet, so it is proved and built first, which takes some minutes",
-              file=sys.stderr)
+        say("the library is not there yet, so it is proved and built first, which takes some minutes")
     if missing or shutil.which("rt"):
-        done = subprocess.run([str(builder)], stdin=subprocess.DEVNULL, stdout=sys.stderr, check=False)
+        done = subprocess.run([str(builder)], stdin=subprocess.DEVNULL, stdout=sys.stderr or subprocess.DEVNULL, check=False)
         if done.returncode:
             raise NoLibrary(f"the library could not be built: {builder} ended with {done.returncode}")
 

@@ -8,7 +8,7 @@ import re
 import struct
 import sys
 from array import array
-from typing import BinaryIO, Iterable, List, NamedTuple, Tuple, Union
+from typing import Callable, Iterable, List, NamedTuple, Tuple, Union
 
 from .calls import EMPTY_BOX, WORDS_OF_A_LINE
 from .columns import Lines, lines_of_words
@@ -21,6 +21,7 @@ from .words import are_rows, in_order, rows_of, words_of
 MAGIC, FORM = b"HLST", 1
 HEAD = struct.Struct("<4s5I2I4I")
 BOX = struct.Struct("<4i2I")
+AGAIN = "the list was cut short or changed: flatten the sheet again"
 LINES_AT_ONCE = 1 << 13  # what is worked on together stays in the processor's cache
 
 RECORD_ROW = re.compile(b"[0-9a-f]{8}( [0-9a-f]{8}){5}")
@@ -92,14 +93,13 @@ def wrong_at(name: str, number: int, why: str) -> Wrong:
 def packed_listing(name: str, data: bytes) -> Listing:
     """A packed list, which is as long as its head says."""
     if len(data) < HEAD.size:
-        raise Wrong(f"{name}: a packed list that ends in its head: it was cut short; flatten the sheet again")
+        raise Wrong(f"{name}: a packed list that ends in its head; {AGAIN}")
     _, form, number, end, low, high, lines, boxes, *_ = HEAD.unpack_from(data)
     if form != FORM:
         raise Wrong(f"{name}: a packed list of form {form}, and this version reads form {FORM}")
     size = HEAD.size + 24 * (lines + boxes)
     if len(data) != size:
-        raise Wrong(f"{name}: a packed list of {size:,} bytes by its head, and {len(data):,} are there: it was cut short "
-                    "or damaged; flatten the sheet again")
+        raise Wrong(f"{name}: a packed list of {size:,} bytes by its head, and {len(data):,} are there; {AGAIN}")
     behind = HEAD.size + 24 * lines
     words = in_order(array("I", data[HEAD.size:behind]))
     check_records(words, lambda row, why: Wrong(f"{name}: record {row + 1:,}: {why}"))
@@ -110,7 +110,7 @@ def packed_listing(name: str, data: bytes) -> Listing:
 def text_listing(name: str, data: bytes) -> Listing:
     """The list that flatlist wrote."""
     if not data:
-        raise wrong_at(name, 1, "empty; it is neither a sheet nor a list: flatten the sheet again")
+        raise wrong_at(name, 1, f"empty; {AGAIN}")
     check_ends(name, data)
     data = data if data.endswith(b"\n") else data + b"\n"
     behind_first = data.index(b"\n") + 1
@@ -121,8 +121,7 @@ def text_listing(name: str, data: bytes) -> Listing:
     first = len(lines.paths) + 2
     boxes = [box_of(name, number, row) for number, row in enumerate(data[behind:].split(b"\n")[:-1], first)]
     if promised not in (None, len(lines.paths)):
-        raise wrong_at(name, 1, f"promises {count(promised, 'line')}, and {len(lines.paths)} follow: "
-                                "the list was cut short or changed; flatten the sheet again")
+        raise wrong_at(name, 1, f"promises {count(promised, 'line')}, and {len(lines.paths)} follow; {AGAIN}")
     return Listing(name, refusal, lines, boxes)
 
 
@@ -144,11 +143,12 @@ def answer_of(name: str, row: bytes) -> tuple:
     if row == b"bad input":
         raise wrong_at(name, 1, "flatlist's 'bad input': the sheet was not in the form, and there is no list; "
                                 "`hinth info` on the sheet says where")
-    raise wrong_at(name, 1, f"neither 'lines N', 'refused R at T' nor a sheet's first word: {quoted(row)}")
+    raise wrong_at(name, 1, f"neither 'lines N', 'refused R at T' nor a sheet's first word: {quoted(row)}; "
+                            "name a list or a sheet")
 
 
 def wrong_row(name: str, number: int, row: bytes) -> Wrong:
-    return wrong_at(name, number, f"neither a record of six words nor, behind the records, a box: {quoted(row)}")
+    return wrong_at(name, number, f"neither a record of six words nor, behind the records, a box: {quoted(row)}; {AGAIN}")
 
 
 def lines_of_text(name: str, text: bytes) -> Lines:
@@ -161,18 +161,20 @@ def lines_of_text(name: str, text: bytes) -> Lines:
     return lines_of_words(words)
 
 
-def check_records(words: "array[int]", wrong) -> None:
+def check_records(words: "array[int]", wrong: Callable[[int, str], Wrong]) -> None:
     """A record's second word is 0, and no coordinate is a NaN: its bits but the sign are above those of infinity."""
-    check_column(words[1::6], bool, wrong, "the second word of a record is not 0")
+    check_column(words[1::6], bool, wrong, f"the second word of a record is not 0; {AGAIN}")
     for column in range(2, 6):
-        check_column(words[column::6], is_nan, wrong, "a coordinate is not a number, which flatlist never writes")
+        check_column(words[column::6], is_nan, wrong, f"a coordinate is not a number, which flatlist never writes; {AGAIN}")
 
 
 def is_nan(bits: int) -> bool:
     return bits & 0x7fffffff > 0x7f800000
 
 
-def check_column(column: "array[int]", is_wrong, wrong, why: str) -> None:
+def check_column(column: "array[int]", is_wrong: Callable[[int], bool], wrong: Callable[[int, str], Wrong],
+                 why: str) -> None:
+    """Nothing in the column is wrong, or the first that is, is told by its row."""
     if any(map(is_wrong, column)):
         raise wrong([is_wrong(word) for word in column].index(True), why)
 
@@ -184,7 +186,7 @@ def box_of(name: str, number: int, row: bytes) -> Tuple[int, ...]:
     box = tuple(int(field) for field in row.split(b" ")[1:])
     x0, y0, x1, y1 = box[:4]
     if not all(-2**31 <= corner < 2**31 for corner in box[:4]):
-        raise wrong_at(name, number, "a box's corner is past 32 bits")
+        raise wrong_at(name, number, f"a box's corner is past 32 bits; {AGAIN}")
     if box[:4] != EMPTY_BOX[:4] and (x0 > x1 or y0 > y1):
-        raise wrong_at(name, number, "a box's corners are out of order, which flatlist never writes")
+        raise wrong_at(name, number, f"a box's corners are out of order, which flatlist never writes; {AGAIN}")
     return box

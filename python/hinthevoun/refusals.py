@@ -49,7 +49,7 @@ class Refusal(Exception):
     @property
     def reason(self) -> Reason:
         """Why, and what to mend."""
-        return ENDS.get(self.end) or REASONS.get(self.number, UNKNOWN)
+        return ENDS[self.end] if self.end in ENDS else REASONS.get(self.number, UNKNOWN)
 
     @property
     def sentence(self) -> str:

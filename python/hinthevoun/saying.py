@@ -4,10 +4,12 @@ import sys
 
 def say(sentence: object) -> None:
     """One sentence on standard error, if there is one."""
+    if sys.stderr is None:
+        return
     try:
         print(f"hinth: {sentence}", file=sys.stderr, flush=True)
-    except (OSError, ValueError, AttributeError):
-        pass
+    except OSError:
+        pass  # no one reads it
 
 
 def count(n: int, thing: str) -> str:

@@ -2,7 +2,7 @@
 import os
 import sys
 from array import array
-from typing import BinaryIO, NamedTuple, Union
+from typing import NamedTuple, Protocol, Union
 
 from .calls import Layout
 from .errors import Wrong
@@ -13,6 +13,15 @@ HEAD = 6  # words before the scene
 LINE = 9  # bytes: eight digits and the end
 CHUNK = LINE << 16  # bytes read at once
 FEWEST_BOXES = 16  # which flatlist lends to the smallest scene
+
+Numbers = Union["array[int]", memoryview]
+
+
+class Readable(Protocol):
+    """A stream, or what reads one for us."""
+
+    def read(self, size: int) -> bytes:
+        """So many bytes, or less at the end."""
 
 
 class Sheet(NamedTuple):
@@ -30,11 +39,11 @@ def memory() -> int:
     return os.sysconf("SC_PAGE_SIZE") * os.sysconf("SC_PHYS_PAGES") // 2
 
 
-def read_sheet(name: str, stream: BinaryIO, first: bytes = b"") -> Sheet:
+def read_sheet(name: str, stream: Readable, first: bytes = b"") -> Sheet:
     """The sheet in a stream, of which some bytes may have been read before."""
     first = first or stream.read(CHUNK)
     packed = not is_text(first)
-    words = packed_words(name, stream, first) if packed else text_words(name, stream, first)
+    words: Numbers = packed_words(name, stream, first) if packed else text_words(name, stream, first)
     if len(words) < HEAD:
         where = f"{name}:{len(words)}" if words and not packed else name
         raise Wrong(f"{where}: the sheet ends here, and six words stand before a scene; export it again"
@@ -42,7 +51,7 @@ def read_sheet(name: str, stream: BinaryIO, first: bytes = b"") -> Sheet:
     return sheet_of(name, words, packed)
 
 
-def sheet_of(name: str, words: Union["array[int]", memoryview], packed: bool) -> Sheet:
+def sheet_of(name: str, words: Numbers, packed: bool) -> Sheet:
     """The sheet that the words are. More boxes than the scene could have paths are a sign of damage."""
     layout, boxes, scene = Layout(*words[:5]), words[5], memoryview(words)[HEAD:]
     most = max(FEWEST_BOXES, 4 * len(scene))
@@ -53,7 +62,7 @@ def sheet_of(name: str, words: Union["array[int]", memoryview], packed: bool) ->
     return Sheet(name, layout, boxes, scene, packed)
 
 
-def packed_words(name: str, stream: BinaryIO, first: bytes) -> memoryview:
+def packed_words(name: str, stream: Readable, first: bytes) -> memoryview:
     """Little-endian words, four bytes each."""
     data, most = bytearray(first), memory()
     while first and len(data) <= most:
@@ -68,7 +77,7 @@ def packed_words(name: str, stream: BinaryIO, first: bytes) -> memoryview:
     return words if sys.byteorder == "little" else memoryview(in_order(array("I", words)))
 
 
-def text_words(name: str, stream: BinaryIO, text: bytes) -> "array[int]":
+def text_words(name: str, stream: Readable, text: bytes) -> "array[int]":
     """Words of eight lowercase hex digits, one a line; the last line's end may be missing."""
     words, most = array("I"), memory() // 4
     while text:

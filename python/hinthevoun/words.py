@@ -31,7 +31,7 @@ def in_reading_order(words: "array[int]") -> "array[int]":
     return words
 
 
-def are_rows(text: Bytes, words: int) -> bool:
+def are_rows(text: bytes, words: int) -> bool:
     """Whether text is whole rows of so many words: separators in their columns, and else only digits."""
     width = 9 * words
     rows, rest = divmod(len(text), width)
@@ -40,7 +40,7 @@ def are_rows(text: Bytes, words: int) -> bool:
             and all(text[9 * i + 8::width] == separators[i:i + 1] * rows for i in range(words)))
 
 
-def words_of(text: Bytes) -> "array[int]":
+def words_of(text: bytes) -> "array[int]":
     """The words of rows of digits."""
     words = array("I")
     words.frombytes(bytes.fromhex(text.decode()))

@@ -278,6 +278,19 @@ class Targets(unittest.TestCase):
         holds(result.said, "the list would take the place of its sheet; give -o another name")
 
     @in_folder
+    def test_a_picture_does_not_take_its_lists_place(self, folder):
+        (folder / "a.lines").write_bytes(ANSWER)
+        for names in (["a.lines"], [SOCKET_LINES, "a.lines"]):
+            result = hinth("draw", *(folder / name for name in names), "-o", folder / "a.lines")
+            same((result.status, (folder / "a.lines").read_bytes()), (2, ANSWER))
+            holds(result.said, "the picture would take the place of its list; give -o another name")
+
+    def test_a_closed_standard_error_leaves_the_answer_alone(self):
+        result = hinth("flatten", "-", data=triangle(boxes=0).encode(), preexec_fn=lambda: os.close(2))
+        same((result.status, result.out.count(b"\n"), result.out[:15]), (1, 4, b"refused 4 at 5\n"))
+        same(hinth("flatten", "none", preexec_fn=lambda: os.close(2)).out, b"")
+
+    @in_folder
     def test_a_folder_and_a_device(self, folder):
         result = hinth("flatten", TRIANGLE_SHEET, "-o", folder)
         same((result.status, result.said), (2, f"hinth: {folder}: is a folder; name a file in it\n"))

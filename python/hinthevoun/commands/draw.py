@@ -3,7 +3,7 @@ import math
 
 from ..cli import DONE, REFUSED, Parser
 from ..errors import Wrong
-from ..files import target
+from ..files import name_of, same, target
 from ..picture.counting import found_in
 from ..picture.paper import Wishes, picture_of
 from ..picture.telling import lacks_of, sentences_of
@@ -79,6 +79,8 @@ def run(options) -> int:
     names = [options.list] if options.over is None else [options.list, options.over]
     if names == ["-", "-"]:
         raise Wrong("both lists would come from standard input; name a file for one of them")
+    if any(same(name, options.picture) for name in names):
+        raise Wrong(f"{name_of(options.picture)}: the picture would take the place of its list; give -o another name")
     with Progress("drawing") as progress:
         lists = []
         for name in names:

@@ -1,16 +1,16 @@
 """hinth flatten: a sheet in, its lines and boxes out."""
 import os
-import sys
 from typing import Optional
 
 from ..cli import DONE, REFUSED, Parser
 from ..errors import Wrong
 from ..files import name_of, same, source, target
-from ..flattening import Answer, flattened
+from ..flattening import flattened
 from ..interrupting import stops_at_once
 from ..library import load
 from ..lists import packed_of, text_of
 from ..progress import Progress
+from ..refusals import Refusal
 from ..saying import say
 from ..sheets import Sheet, read_sheet
 
@@ -68,12 +68,11 @@ def place_in(sheet: Sheet, tag: int) -> str:
     return f"line {7 + word:,}, {('last', 'third', 'second', 'first')[pair]} pair of digits"
 
 
-def about_refusal(sheet: Sheet, answer: Answer, room: Optional[int]) -> str:
-    """What was refused, where, and the cure."""
-    refusal = answer.refusal
+def about_refusal(sheet: Sheet, refusal: Refusal, lent: int, room: Optional[int]) -> str:
+    """What was refused, where, and the cure; how many lines there was room for, and how many were asked for."""
     where = "" if refusal.number == 1 else f" ({place_in(sheet, refusal.tag)})"
     if refusal.number == 6:
-        why = f"more than the {answer.room:,} lines that " + (
+        why = f"more than the {lent:,} lines that " + (
             "this machine has memory for; part the drawing" if room is None else "--room gives; give more")
     else:
         why = f"{refusal.reason.why}; {refusal.reason.cure}"
@@ -104,6 +103,6 @@ def run(options) -> int:
             with target(options.list) as out:
                 out.writelines((packed_of if options.binary else text_of)(answer))
     if answer.refusal:
-        say(about_refusal(sheet, answer, options.room))
+        say(about_refusal(sheet, answer.refusal, answer.room, options.room))
         return REFUSED
     return DONE

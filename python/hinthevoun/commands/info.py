@@ -5,8 +5,8 @@ from typing import Iterable, Iterator, List, Tuple
 
 from ..calls import EMPTY_BOX
 from ..cli import DONE, Parser
-from ..contents import CUBIC, F32, LINE, PATH, QUADRATIC, STYLE, TRANSFORM, TYPE, styles_of, subpaths_of, tags_of, \
-    transforms_of
+from ..contents import CUBIC, F32, LINE, PATH, QUADRATIC, STYLE, TRANSFORM, TYPE, Subpath, styles_of, subpaths_of, \
+    tags_of, transforms_of
 from ..errors import NoLibrary
 from ..files import name_of, source, target
 from ..flattening import Answer, flattened
@@ -33,6 +33,7 @@ The exit status is 0, also for a sheet that is refused, and 2 for a file that is
 """
 
 MOST_KINDS = 12  # of styles and of transforms, that are told
+MOST_LINES = 10_000_000  # that are counted
 
 Row = Tuple[str, str]
 
@@ -72,7 +73,7 @@ def subpath_rows(sheet: Sheet, tags: bytes) -> Iterator[Row]:
     """The subpaths of fills and of strokes, closed and open."""
     found = Counter(subpaths_of(sheet, tags))
     for stroked, what in ((False, "filled"), (True, "stroked"), (None, "no style")):
-        closed, opened, unknown = (found[stroked, closed] for closed in (True, False, None))
+        closed, opened, unknown = (found[Subpath(stroked, closed)] for closed in (True, False, None))
         if closed or opened or unknown:
             rest = f", {unknown:,} without an end or with points missing" if unknown else ""
             yield what, f"{count(closed + opened + unknown, 'subpath')}: {closed:,} closed, {opened:,} open{rest}"
@@ -100,12 +101,17 @@ def drawn_rows(sheet: Sheet) -> Iterator[Row]:
     """What the library makes of it."""
     try:
         with stops_at_once():
-            answer = flattened(sheet)
+            answer = flattened(sheet, MOST_LINES)
     except NoLibrary as why:
         yield "drawn", f"not known: {why}"
         return
     stored = count(len(answer.lines) // 6, "line")
-    yield "drawn", f"{answer.refusal.sentence}, behind {stored}" if answer.refusal else stored + extent_of(answer)
+    if answer.refusal and answer.refusal.number == 6:
+        yield "drawn", f"more than {stored}{extent_of(answer)} so far"
+    elif answer.refusal:
+        yield "drawn", f"{answer.refusal.sentence}, behind {stored}"
+    else:
+        yield "drawn", stored + extent_of(answer)
 
 
 def rows_of(sheet: Sheet) -> Iterable[Row]:

@@ -36,7 +36,8 @@ def open_points(lines: Lines) -> Dict[int, Tuple[int, int]]:
 
 def lines_by_path(lines: Lines) -> Dict[int, Lines]:
     """The lines of each path, which mostly stand together."""
-    parts, first = {}, 0
+    parts: Dict[int, Lines] = {}
+    first = 0
     for path, run in groupby(lines.paths):
         behind = first + sum(1 for _ in run)
         part = parts.setdefault(path, no_lines())
@@ -77,7 +78,8 @@ def chains_of(lines: Lines, most: int) -> List[slice]:
 def shared_and_alone(lines: Lines, others: Lines) -> Tuple[Lines, Lines]:
     """The lines that the others hold too, each as often as there, and those that are left."""
     left = Counter(zip(*others))
-    shared, alone = [], []
+    shared: List[int] = []
+    alone: List[int] = []
     for index, line in enumerate(zip(*lines)):
         (shared if left[line] > 0 else alone).append(index)
         left[line] -= 1

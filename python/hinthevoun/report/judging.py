@@ -62,4 +62,7 @@ def verdict_of(old: Side, new: Side) -> Verdict:
         return Verdict("not read", (len(wrong),), [f"not read: {why}" for why in wrong])
     if old.found and new.found:
         return about_both(old.found, new.found)
-    return about_one(old.found, "old") if old.found else about_one(new.found, "new")
+    if old.found:
+        return about_one(old.found, "old")
+    assert new.found, "a pair has a file"
+    return about_one(new.found, "new")

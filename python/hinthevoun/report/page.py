@@ -90,7 +90,7 @@ def summary_of(entries: List[Entry]) -> str:
 
 def page_of(folders: Tuple[str, str], entries: List[Entry], left_out: List[str], wishes: Wishes) -> List[str]:
     """The page, in parts; the entries are in order, worst first."""
-    old, new = map(escape, folders)
+    old, new = escape(folders[0]), escape(folders[1])
     left = f"<p>Left out, since neither name nor beginning is that of a sheet or a list: {escape(', '.join(left_out))}</p>"
     return [
         '<!DOCTYPE html>\n<html lang="en"><head><meta charset="utf-8">'
