@@ -9,6 +9,7 @@ from pathlib import Path
 from typing import Any, Dict, List, Optional
 
 from .errors import NoLibrary
+from .progress import silent
 from .saying import say
 
 NAME = "libhinthevoun.so"
@@ -54,7 +55,9 @@ def build() -> None:
     if missing:
         say("the library is not there yet, so it is proved and built first, which takes some minutes")
     if missing or shutil.which("rt"):
-        done = subprocess.run([str(builder)], stdin=subprocess.DEVNULL, stdout=sys.stderr or subprocess.DEVNULL, check=False)
+        out = sys.stderr or subprocess.DEVNULL
+        with silent():
+            done = subprocess.run([str(builder)], stdin=subprocess.DEVNULL, stdout=out, check=False)
         if done.returncode:
             raise NoLibrary(f"the library could not be built: {builder} ended with {done.returncode}")
 

@@ -2,9 +2,21 @@
 import sys
 import threading
 import time
-from typing import Optional
+from contextlib import contextmanager
+from typing import Iterator, Optional
 
 FIRST, NEXT = 1.0, 0.5  # seconds before the line is shown, and until it changes
+_silent = threading.Event()
+
+
+@contextmanager
+def silent() -> Iterator[None]:
+    """Within the `with`, no progress is told, since another program tells its own."""
+    _silent.set()
+    try:
+        yield
+    finally:
+        _silent.clear()
 
 
 class Progress:
@@ -30,6 +42,8 @@ class Progress:
         began, told = time.monotonic(), False
         wait = FIRST
         while not self._over.wait(wait):
+            if _silent.is_set():
+                continue
             sys.stderr.write(f"\r\033[Khinth: {self.doing}, {time.monotonic() - began:.0f} s")
             sys.stderr.flush()
             wait, told = NEXT, True

@@ -6,7 +6,7 @@ import subprocess
 import tempfile
 
 PROGRAM = shutil.which("chromium") or shutil.which("chromium-browser") or shutil.which("google-chrome")
-MOST_SECONDS = 60
+MOST_SECONDS = 120
 
 
 class Browser:

@@ -1,8 +1,10 @@
 """The functions of the package: those of include/hinthevoun.h on Python's own lists."""
+import ctypes
 import math
 import mmap
 import re
 import struct
+import subprocess
 import sys
 import unittest
 from array import array
@@ -18,6 +20,9 @@ from hinthevoun.library import load  # noqa: E402
 from hinthevoun.refusals import ENDS, REASONS  # noqa: E402
 
 
+LIBRARY = ROOT / "target/staticlib/libhinthevoun.so"
+
+
 def parts_of(sheet):
     """The numbers of the call, the boxes and the scene of a sheet's text."""
     words = array("I", [int(row, 16) for row in sheet.split()])
@@ -31,6 +36,13 @@ def called(sheet, room=10, prefix_words=None):
     lines = array("I", [0xa5a5a5a5]) * (6 * room)
     hinthevoun.scan(scene, layout.tag_base, prefixes)
     return hinthevoun.flatten(*layout, scene, prefixes[:prefix_words], lent, lines), lent, lines
+
+
+def header_names():
+    """The functions that the header declares, without what their names have in common."""
+    names = re.findall(r"^\w[\w ]*\bhinth_(\w+)\(", (ROOT / "include/hinthevoun.h").read_text(), re.M)
+    assert len(names) >= 12, names
+    return names
 
 
 def refused(function, *arguments):
@@ -181,14 +193,20 @@ class Mathematics(unittest.TestCase):
             assert math.isnan(getattr(hinthevoun, name)(1.5)), name
 
     def test_every_function_of_the_header_has_one(self):
-        header = (ROOT / "include/hinthevoun.h").read_text()
-        for name in re.findall(r"^(?:float|uint32_t) hinth_(\w+)\(", header, re.M):
+        for name in header_names():
             assert callable(getattr(hinthevoun, name)), name
             assert getattr(hinthevoun, name).__doc__, name
             assert getattr(load(), f"hinth_{name}").argtypes, name
 
+    def test_the_library_has_these_functions_and_asks_for_none(self):
+        listed = subprocess.run(["nm", "-D", "-P", LIBRARY], stdout=subprocess.PIPE, check=True, text=True).stdout
+        symbols = [row.split()[:2] for row in listed.split("\n") if row]
+        same(sorted(name for name, kind in symbols if kind == "T"), sorted(f"hinth_{name}" for name in header_names()))
+        same([name for name, kind in symbols if kind in "Uw"], [])
+
     def test_numbers_that_are_none_are_told(self):
-        self.assertRaises(Exception, hinthevoun.sqrt, "2")
+        for function in (hinthevoun.half, hinthevoun.sqrt):
+            self.assertRaises(ctypes.ArgumentError, function, "2")
 
 
 class Example(unittest.TestCase):

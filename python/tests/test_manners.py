@@ -10,6 +10,7 @@ import subprocess
 import sys
 import time
 import unittest
+import zipfile
 
 from support import PACKAGE, ROOT, SOCKET_LINES, SOCKET_SHEET, TRIANGLE_SHEET, hinth, holds, in_folder, same
 from test_flatten import many
@@ -26,7 +27,7 @@ def on_a_terminal(code, seconds=30, keys=()):
         os.chdir(PACKAGE)
         os.execv(sys.executable, [sys.executable, "-c", code])
     said, end, keys = b"", time.monotonic() + seconds, list(keys)
-    while time.monotonic() < end and select.select([terminal], [], [], 1.0)[0] is not None:
+    while time.monotonic() < end:
         try:
             if select.select([terminal], [], [], 0.2)[0]:
                 said += os.read(terminal, 10_000)
@@ -103,6 +104,20 @@ class Waiting(unittest.TestCase):
         done = subprocess.run([sys.executable, "-c", self.slow.format(seconds=1.5)], cwd=PACKAGE, capture_output=True,
                               check=False)
         same((done.returncode, done.stderr), (0, b""))
+
+    def test_no_progress_is_told_while_the_library_is_built(self):
+        code = ("import subprocess, sys, time, hinthevoun.library as l; from hinthevoun.cli import main\n"
+                "real = l.find; l.builder, l.find = '/bin/sleep-and-say', lambda: real() if done else None\n"
+                "done = []\n"
+                "def slowly(*a, **k):\n    time.sleep(2.2); done.append(1)\n"
+                "    return subprocess.CompletedProcess(a, 0)\n"
+                "l.subprocess = type('S', (), dict(run=slowly, DEVNULL=-3))\n"
+                f"sys.exit(main(['draw', {str(TRIANGLE_SHEET)!r}, '-o', '/dev/null']))")
+        said, status = on_a_terminal(code)
+        same(status, 0)
+        rows = said.replace("\r\n", "\n").split("\n")
+        same(rows[0], "hinth: the library is not there yet, so it is proved and built first, which takes some minutes")
+        same(rows[1], f"hinth: {TRIANGLE_SHEET}: path 0: 3 lines, 0 open points")
 
     def test_ctrl_c_ends_it_without_a_traceback(self):
         said, status = on_a_terminal(self.slow.format(seconds=20), keys=[(b"reading", b"\x03")])
@@ -224,6 +239,20 @@ class Installed(unittest.TestCase):
                               env={"PATH": f"{folder}/venv/bin:/usr/bin:/bin"})
         same((done.returncode, done.stdout, done.stderr), (0, SOCKET_LINES.read_bytes(), b""))
         holds(os.listdir(next((folder / "venv/lib").glob("python*/site-packages/hinthevoun"))), LIBRARY.name)
+
+    @in_folder
+    def test_without_a_library_the_package_is_for_any_machine(self, folder):
+        """Built away from the checkout, as an old pip does."""
+        shutil.copytree(PACKAGE, folder / "python", ignore=shutil.ignore_patterns("tests", "__pycache__"))
+        code = "import backend; print(backend.build_wheel('.'), backend.build_sdist('.'))"
+        done = subprocess.run([sys.executable, "-c", code], cwd=folder / "python", capture_output=True, check=False)
+        same((done.returncode, done.stdout), (0, b"hinthevoun-0.1.0-py3-none-any.whl hinthevoun-0.1.0.tar.gz\n"))
+        with zipfile.ZipFile(folder / "python/hinthevoun-0.1.0-py3-none-any.whl") as wheel:
+            names = wheel.namelist()
+            rows = [row.split(",")[0] for row in wheel.read("hinthevoun-0.1.0.dist-info/RECORD").decode().split()]
+        same(sorted(rows), sorted(names))
+        sources = {str(place.relative_to(PACKAGE)) for place in (PACKAGE / "hinthevoun").rglob("*.py")}
+        assert sources < set(names), sources - set(names)
 
 
 STANDARD = getattr(sys, "stdlib_module_names", ())
