@@ -56,11 +56,13 @@ def folders(folder):
     new.mkdir()
     lines = SOCKET_LINES.read_text().split("\n")
     gap = "\n".join(["lines 111", *lines[1:50], *lines[51:]])
+    solid = "\n".join(lines).replace("247 240 1 0", "247 240 0 0")
     moved = TRIANGLE.replace("\n00060000\n", "\n00070000\n")
     for name, old_text, new_text in (
             ("equal.lines", SOCKET_LINES.read_text(), None), ("equal.sheet", None, SOCKET_SHEET.read_text()),
             ("moved.sheet", TRIANGLE, moved), ("gap.lines", SOCKET_LINES.read_text(), gap),
-            ("open.lines", gap, gap), ("gone.sheet", TRIANGLE, None), ("added.sheet", None, TRIANGLE),
+            ("open.lines", gap, gap), ("gone.sheet", TRIANGLE, None), ("solid.lines", "\n".join(lines), solid),
+            ("wide.lines", "\n".join(lines), "\n".join(lines).replace("box 38", "box 37")), ("added.sheet", None, TRIANGLE),
             ("refused.sheet", TRIANGLE, triangle(boxes=0)), ("damaged.sheet", TRIANGLE, "hello\n"),
             ("notes.txt", "about these drawings\n", None), (".hidden", "x", "x")):
         for place, text in ((old, old_text), (new, new_text)):
@@ -85,12 +87,12 @@ class Page(unittest.TestCase):
         cards = Cards(page).cards
         same([(card["name"], card["kind"]) for card in cards],
              [("damaged", "not read"), ("refused", "refused"), ("added", "only in one folder"),
-              ("gone", "only in one folder"), ("moved", "lines differ"), ("gap", "lines differ"),
-              ("open", "open points"), ("equal", "the same")])
-        same([card["pictures"] for card in cards], [1] * 8)
+              ("gone", "only in one folder"), ("solid", "ink differs"), ("moved", "lines differ"), ("gap", "lines differ"),
+              ("wide", "boxes differ"), ("open", "open points"), ("equal", "the same")])
+        same([card["pictures"] for card in cards], [1] * 10)
         same((result.status, result.out), (1, b""))
-        same(result.said, "hinth: 8 drawings: 1 not read, 1 refused, 2 only in one folder, 2 lines differ, 1 open points, "
-                          f"1 the same; left out: {folder}/old/notes.txt\n")
+        same(result.said, "hinth: 10 drawings; not read: 1; refused: 1; only in one folder: 2; ink differs: 1; lines differ: 2; "
+                          f"boxes differ: 1; open points: 1; the same: 1; left out: {folder}/old/notes.txt\n")
 
     @in_folder
     def test_what_is_said_of_each(self, folder):
@@ -103,6 +105,9 @@ class Page(unittest.TestCase):
         holds(said["moved"], "boxes differ at path 0")
         holds(said["gap"], "111 lines in both, 1 only in the old, 0 only in the new")
         holds(said["gap"], "0 open points in the old, 2 in the new")
+        holds(said["solid"], "path 0: ink by the even-odd rule in the old, by the nonzero rule in the new")
+        holds(said["solid"], "112 lines in both, 0 only in the old, 0 only in the new")
+        holds(said["wide"], "boxes differ at path 1")
         holds(said["open"], "2 open points in the old, 2 in the new")
         holds(said["equal"], "112 lines in both, 0 only in the old, 0 only in the new")
 
@@ -159,7 +164,7 @@ class Page(unittest.TestCase):
     def test_empty_folders_are_a_page(self, folder):
         (folder / "old").mkdir()
         result = hinth("compare", folder / "old", folder / "old", "-o", folder / "report.html")
-        same((result.status, result.said), (0, "hinth: 0 drawings: none\n"))
+        same((result.status, result.said), (0, "hinth: 0 drawings\n"))
         same(Cards((folder / "report.html").read_text()).cards, [])
 
 
@@ -175,20 +180,20 @@ class InABrowser(unittest.TestCase):
         with browser.Browser() as shown:
             shown.open(folder / "report.html")
             small = shown.value(sizes)
-            same(len(small), 8)
+            same(len(small), 10)
             assert all(100 < width < 600 for width in small), small
             words = "[...document.querySelectorAll('.words')].filter(g => g.getBoundingClientRect().width > 0).length"
             same(shown.value(words), 0)
-            shown.click(".card:nth-child(5) .picture")
+            shown.click(".card:nth-child(6) .picture")
             large = shown.value(sizes)
-            same([width > 1000 for width in large], [number == 4 for number in range(8)])
+            same([width > 1000 for width in large], [number == 5 for number in range(10)])
             same(shown.value(words), 1)
             same(shown.value("document.querySelector('.large h2').textContent"), "moved")
             same(shown.value("document.elementFromPoint(600, 20).closest('.card').querySelector('h2').textContent"), "moved")
             shown.press("Escape")
             same(shown.value(sizes), small)
-            shown.click(".card:nth-child(5) .picture")
-            shown.click(".card:nth-child(5) .picture")
+            shown.click(".card:nth-child(6) .picture")
+            shown.click(".card:nth-child(6) .picture")
             same(shown.value(sizes), small)
             same((shown.failures(), [url.split("/")[-1] for url in shown.requests()]), ([], ["report.html"]))
 

@@ -512,7 +512,8 @@ class NotDrawn(unittest.TestCase):
 
     def test_a_missing_file_is_told(self):
         result = run_draw("no-such.lines")
-        same((result.status, result.out, result.said), (2, b"", "hinth: no-such.lines: No such file or directory; is the name right?\n"))
+        same((result.status, result.out), (2, b""))
+        same(result.said, "hinth: no-such.lines: No such file or directory; is the name right?\n")
 
     def test_wrong_arguments_are_told_in_a_sentence(self):
         wrong_sizes = [["--mm", size, "a"] for size in ("0", "-1", "nan", "inf", "x")]

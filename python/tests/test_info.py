@@ -64,7 +64,8 @@ class Info(unittest.TestCase):
         rows = told(sheet_of(tags, data, FILL + STROKE + FILL))
         same(rows["filled"], ["3 subpaths: 1 closed, 1 open, 1 without an end or with points missing"])
         same(rows["stroked"], ["2 subpaths: 1 closed, 1 open"])
-        same(rows["styles"], ["3", "2 × fill by the nonzero rule", "1 × stroke of width 2, round joins, caps round and round"])
+        same(rows["styles"], ["3", "2 × fill by the nonzero rule",
+                              "1 × stroke of width 2, round joins, caps round and round"])
 
     def test_f32_points_are_two_words(self):
         same(told(sheet_of([0x20, 0x40, 9, 13, 0x10], [7, 8, 1, 2, 7, 8], FILL))["filled"], ["1 subpath: 1 closed, 0 open"])

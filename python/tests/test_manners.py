@@ -132,7 +132,8 @@ class Waiting(unittest.TestCase):
         code = ("import sys, time, ctypes, hinthevoun.flattening as f; from hinthevoun.cli import main\n"
                 "sleep = ctypes.CDLL(None).sleep\n"
                 "def slowly(*a):\n    print('called', flush=True)\n    return sleep(20)\n"
-                f"f.flatten = slowly\nsys.exit(main(['flatten', {str(folder / 'a.sheet')!r}, '-o', {str(folder / 'out')!r}]))")
+                f"f.flatten = slowly\n"
+                f"sys.exit(main(['flatten', {str(folder / 'a.sheet')!r}, '-o', {str(folder / 'out')!r}]))")
         began = time.monotonic()
         with subprocess.Popen([sys.executable, "-c", code], cwd=PACKAGE, stdout=subprocess.PIPE,
                               stderr=subprocess.PIPE) as process:

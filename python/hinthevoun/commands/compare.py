@@ -24,7 +24,8 @@ Example:
 
 Files are a pair if their names are the same, or the same but for what stands behind the last dot: brim.lines and brim.sheet.
 Each pair is a picture, the old drawing blue and wide, the new one orange and narrow. The worst come first: what could not be
-read; refusals; drawings that only one folder has; the most lines that only one has; open points; and last what is the same.
+read; refusals; drawings that only one folder has; paths that are inked by another rule; the most lines that only one has;
+boxes that differ; open points; and last what is the same.
 A click on a picture shows it large, with all its words; Escape puts it back.
 
 The exit status is 0 if all was compared, 1 if a drawing was refused or could not be read, which the page tells too, and 2 if

@@ -2,11 +2,14 @@
 from typing import List, NamedTuple, Tuple
 
 from ..picture.counting import Found, shared_and_alone
+from ..picture.ink import rule_of
 from ..picture.telling import about_boxes, lacks_of
 from ..saying import count
 from .pairs import Side
 
-KINDS = ("not read", "refused", "only in one folder", "lines differ", "open points", "the same")
+KINDS = ("not read", "refused", "only in one folder", "ink differs", "lines differ", "boxes differ", "open points",
+         "the same")
+MOST_RULES = 10  # paths whose rules are told
 
 
 class Verdict(NamedTuple):
@@ -33,18 +36,40 @@ def lines_alone(old: Found, new: Found) -> Tuple[int, int, int]:
     return both, len(alone.paths), len(new.lines.paths) - both
 
 
+def about_rules(old: Found, new: Found) -> List[str]:
+    """The paths that are inked by another rule, so that an opening may have become solid, or a solid part open."""
+    paths = {outline.path for found in (old, new) for outline in found.outlines if outline.lines.paths}
+    rules = {path: (rule_of(old, path), rule_of(new, path)) for path in sorted(paths)}
+    said = [f"path {path}: ink by the {before} rule in the old, by the {behind} rule in the new"
+            for path, (before, behind) in rules.items() if before != behind]
+    left = len(said) - MOST_RULES
+    return said[:MOST_RULES] + ([f"and {count(left, 'more path')} with another rule"] if left > 0 else [])
+
+
+def kind_of(old: Found, new: Found, rules: List[str], differ: int, gaps: int) -> str:
+    """The worst that there is to say of two drawings."""
+    if old.refusal or new.refusal:
+        return "refused"
+    if rules:
+        return "ink differs"
+    if differ:
+        return "lines differ"
+    if old.boxes != new.boxes:
+        return "boxes differ"
+    return "open points" if gaps else "the same"
+
+
 def about_both(old: Found, new: Found) -> Verdict:
     """Two drawings that are there."""
     both, only_old, only_new = lines_alone(old, new)
-    gaps = gaps_in(old), gaps_in(new)
-    said = [f"{count(both, 'line')} in both, {only_old:,} only in the old, {only_new:,} only in the new",
+    gaps, rules = (gaps_in(old), gaps_in(new)), about_rules(old, new)
+    said = [*rules,
+            f"{count(both, 'line')} in both, {only_old:,} only in the old, {only_new:,} only in the new",
             about_boxes(old, new),
             f"{count(gaps[0], 'open point')} in the old, {gaps[1]:,} in the new"]
     lacks = [f"{which}: {lack}" for which, found in (("old", old), ("new", new)) for lack in lacks_of(found)]
     differ = only_old + only_new
-    kind = ("refused" if old.refusal or new.refusal else "lines differ" if differ or old.boxes != new.boxes
-            else "open points" if sum(gaps) else "the same")
-    return Verdict(kind, (differ, sum(gaps)), lacks + said)
+    return Verdict(kind_of(old, new, rules, differ, sum(gaps)), (differ, sum(gaps)), lacks + said)
 
 
 def about_one(found: Found, which: str) -> Verdict:

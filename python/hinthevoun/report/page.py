@@ -84,8 +84,7 @@ def card_of(entry: Entry, wishes: Wishes) -> str:
 def summary_of(entries: List[Entry]) -> str:
     """How many there are of each kind."""
     kinds = Counter(entry.verdict.kind for entry in entries)
-    told = [f"{kinds[kind]:,} {kind}" for kind in KINDS if kinds[kind]]
-    return f"{count(len(entries), 'drawing')}: {', '.join(told) or 'none'}"
+    return "; ".join([count(len(entries), "drawing"), *(f"{kind}: {kinds[kind]:,}" for kind in KINDS if kinds[kind])])
 
 
 def page_of(folders: Tuple[str, str], entries: List[Entry], left_out: List[str], wishes: Wishes) -> List[str]:
