@@ -50,9 +50,16 @@ def text_of(answer: Answer) -> Iterable[Union[bytes, bytearray]]:
     step = LINES_AT_ONCE * WORDS_OF_A_LINE
     for first in range(0, len(words), step):
         yield rows_of(words[first:first + step], WORDS_OF_A_LINE)
-    boxes = boxes_of(answer)
-    for first in range(0, len(boxes), LINES_AT_ONCE):
-        yield "".join(["box %d %d %d %d %d %d\n" % box for box in boxes[first:first + LINES_AT_ONCE]]).encode()
+    for first in range(0, len(answer.boxes), step):
+        yield box_rows(answer.boxes[first:first + step])
+
+
+def box_rows(boxes: "array[int]") -> bytes:
+    """The rows of some boxes: four signed numbers each, and two that are not."""
+    numbers, unsigned = boxes.tolist(), array("I", boxes.tobytes())
+    for column in (4, 5):
+        numbers[column::6] = unsigned[column::6]
+    return ("box %d %d %d %d %d %d\n" * (len(numbers) // 6) % tuple(numbers)).encode()
 
 
 def packed_of(answer: Answer) -> Iterable[Union[bytes, memoryview]]:

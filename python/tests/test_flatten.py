@@ -86,6 +86,12 @@ class Sheets(unittest.TestCase):
         result = hinth("flatten", "-", data=triangle(boxes=40).encode())
         same(result.out.decode().count(EMPTY_BOX), 39)
 
+    def test_a_transform_that_is_not_there_is_an_unsigned_number(self):
+        """A path tag without a transform before it names the one before the first, which is 2^32 - 1."""
+        words = [1, 0, 0, 0, 66, 1, 0x00001040, *[0] * 63, *[0] * 4]
+        result = hinth("flatten", "-", data="".join(f"{word:08x}\n" for word in words).encode())
+        same((result.status, result.out.decode()), (0, f"lines 0\n{EMPTY_BOX[:-1]}4294967295\n"))
+
     def test_memory_is_taken_only_for_what_is_stored(self):
         """In 600 MB of addresses, of which the whole room that is tried first would be far more."""
         def little():
