@@ -1,6 +1,6 @@
 /*
  * The C interface of Hinthevoun. Link target/staticlib/libexports.a, written by `tools/staticlib exports`; it asks for no
- * other library, not even C's.
+ * other library, not even C's. `tools/library` writes libhinthevoun.so beside it, with the same functions.
  *
  * Every function answers for every argument. None keeps state, allocates, touches memory that it is not lent or reports
  * errors in another way than by its answer. Results are meant bit for bit, with one exception: a float answer that is
