@@ -4,4 +4,5 @@ pub mod Walks
 pub mod Chain
 pub mod Bounds
 pub mod Infinite
+pub mod Inner
 pub mod Only

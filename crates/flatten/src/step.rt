@@ -2,6 +2,7 @@
 ghost use mathlib.Core.Path.{_≡_};
 ghost use Prim.Native.Nat.{_-_, _<_};
 ghost use Rattle.drawing.specs.Sheet.{sheet};
+ghost use Rattle.drawing.specs.declared.line.Drawn.the-variants.{Stopped};
 ghost use Rattle.flatten.specs.Tag.{eventsAt};
 ghost use Rattle.flatten.specs.Step.{drawnOf, changeOf, turnOf, refusedAt, stepped, stepOf};
 use crate::boxes::Change;
@@ -28,11 +29,13 @@ fn draw_tag(
     lines: &mut [u32],
     ix: u64,
     head: Head,
-    pen: Pen,
+    count: u32,
+    bbox: IntBbox,
 ) -> Drawn
     ensures { λ r. ⌜ sheet (now (lines .exit)) r
-        ≡ drawnOf (head .tag .monoid .«path_ix») pen (now (lines .entry)) (eventsAt layout (now (scene .entry)) (now (prefixes .entry)) ix head) ⌝ }
+        ≡ drawnOf (head .tag .monoid .«path_ix») (record { count = count; bbox = bbox }) (now (lines .entry)) (eventsAt layout (now (scene .entry)) (now (prefixes .entry)) ix head) ⌝ }
 {
+    let pen = Pen { count, bbox };
     let tag = head.tag;
     if tag.tag_byte % 4 == 0 {
         return Drawn::On(pen);
@@ -51,11 +54,11 @@ fn draw_tag(
                     let ink = Drawn::On(pen);
                     draw_shape(lines, ink, path, head.flags, points, z, shape)
                 }
-                ShapeRead::Refused(why) => Drawn::Stopped(why, pen.count),
+                ShapeRead::Refused(why) => Drawn::Stopped(why, count),
             };
         }
     }
-    Drawn::Stopped(Refusal::Outside, pen.count)
+    Drawn::Stopped(Refusal::Outside, count)
 }
 
 fn change_of(head: Head, bbox: IntBbox) -> Change
@@ -75,12 +78,30 @@ fn one_less(left: u64) -> u64
     if left == 0 { 0 } else { left - 1 }
 }
 
+// Where a tag is stopped as it draws, it is not finished: no box of it is merged.
+fn stopped_at(t: Turn, head: Head, why: Refusal, count: u32) -> Turn
+    ensures { λ r. ⌜ r ≡ turnOf t head (Stopped why count) ⌝ }
+{
+    let tag = t.tag;
+    let at = head.tag.monoid.path_ix as usize;
+    let none = IntBbox::empty();
+    let change = change_of(head, none);
+    Turn {
+        left: 0,
+        tag,
+        count,
+        stop: Stop::Refused(why),
+        at,
+        change,
+    }
+}
+
 fn turn_of(t: Turn, head: Head, drawn: Drawn) -> Turn
     ensures { λ r. ⌜ r ≡ turnOf t head drawn ⌝ }
 {
-    let at = head.tag.monoid.path_ix as usize;
     match drawn {
         Drawn::On(pen) => {
+            let at = head.tag.monoid.path_ix as usize;
             let change = change_of(head, pen.bbox);
             Turn {
                 left: one_less(t.left),
@@ -91,17 +112,7 @@ fn turn_of(t: Turn, head: Head, drawn: Drawn) -> Turn
                 change,
             }
         }
-        Drawn::Stopped(why, count) => {
-            let change = change_of(head, IntBbox::empty());
-            Turn {
-                left: 0,
-                tag: t.tag,
-                count,
-                stop: Stop::Refused(why),
-                at,
-                change,
-            }
-        }
+        Drawn::Stopped(why, count) => stopped_at(t, head, why, count),
     }
 }
 
@@ -138,13 +149,9 @@ pub fn step(
 {
     match read_head(layout, scene, prefixes, n_boxes, t.tag) {
         HeadRead::Found(head) => {
-            // Each tag starts a box of its own.
-            let fresh = IntBbox::empty();
-            let pen = Pen {
-                count: t.count,
-                bbox: fresh,
-            };
-            let drawn = draw_tag(layout, scene, prefixes, lines, t.tag, head, pen);
+            // Each tag starts a box of its own: that of the last one is merged.
+            let own = IntBbox::empty();
+            let drawn = draw_tag(layout, scene, prefixes, lines, t.tag, head, t.count, own);
             turn_of(t, head, drawn)
         }
         HeadRead::Refused(why) => refused_at(t, why),

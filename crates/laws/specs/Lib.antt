@@ -2,6 +2,7 @@ pub mod Binary32
 pub mod Only
 pub mod Same
 pub mod Own
+pub mod NotFinite
 pub mod Dyadic
 pub mod Nan
 pub mod Neg

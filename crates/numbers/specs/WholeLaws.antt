@@ -122,6 +122,10 @@ pub ceil-exact : (s : Bool) (m : ℕ) (e : ℤ) → T (fits binary32 (fin s m e)
 unfolding ceilOf signOf
 ceil-exact s m e F = whole-exact (not s) s m e F
 
+pub ceil-nan : ceilOf nan ≡ nan
+unfolding ceilOf wholeOf
+ceil-nan = refl
+
 -- ---- the other sign
 neg-odd : (d q k l : ℕ) → neg (odd d false q k l) ≡ odd d true q k l
 unfolding neg odd

@@ -23,6 +23,11 @@ nan-test (inf false) = refl
 nan-test (fin true m e) = both (eqb (m * up e * down e) (m * up e * down e)) (eqb-refl (m * up e * down e))
 nan-test (fin false m e) = both (eqb (m * up e * down e) (m * up e * down e)) (eqb-refl (m * up e * down e))
 
+-- ---- a NaN has no size
+pub abs-nan : absOf nan ≡ nan
+unfolding absOf signOf signed
+abs-nan = refl
+
 -- ---- a size has no sign
 pub abs-clear : (x : Float) → T (not (signOf (absOf x)))
 unfolding signOf absOf signed neg

@@ -1,5 +1,6 @@
 // A float's word, sign and size. There is one NaN, with no sign, so a NaN's sign counts as clear.
 ghost use mathlib.Core.Path.{_≡_};
+ghost use Prim.Native.Nat.{_*_, _<_};
 ghost use lib.Ieee.{binary32, ofBits, toBits, isNan};
 ghost use Rattle.numbers.specs.Words.{signOf, signed, absOf, copysignOf, halfOf};
 
@@ -64,15 +65,23 @@ pub fn copysign(x: f32, s: f32) -> f32
     turned(is_negative(s), abs(x))
 }
 
-// The binary16 in the low 16 bits of w. Its sign, exponent and digits are put where binary32 has
-// its own. Finite ones are then too small by 2^112, subnormals too, since binary32's exponents
-// begin so much lower; the product is exact. All ones, the exponent of an infinity or a NaN, are
-// filled up to all ones.
+// A binary16's exponent and digits, put where binary32 has its own: a subnormal's digits too, which
+// are all that it has.
+fn moved(size: u32) -> u32
+    requires { ⌜ size < 32768 ⌝ }
+    ensures { λ r. ⌜ r ≡ size * 8192 ⌝ }
+{
+    size * 8192
+}
+
+// The binary16 in the low 16 bits of w. With its fields put where binary32 has its own, finite ones
+// are too small by 2^112, subnormals too, since binary32's exponents begin so much lower; the product
+// is exact. All ones, the exponent of an infinity or a NaN, are filled up to all ones.
 pub fn half(w: u32) -> f32
     ensures { λ r. ⌜ r ≡ halfOf w ⌝ }
 {
     let size = w % 32768;
-    let word = w / 32768 % 2 * 0x8000_0000 + size * 8192;
+    let word = w / 32768 % 2 * 0x8000_0000 + moved(size);
     if size < 31744 {
         return float_of(word) * 5192296858534827628530496329220096.0;
     }

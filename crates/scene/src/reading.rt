@@ -1,6 +1,6 @@
 // The points, the transform and the style words that a tag names.
 ghost use mathlib.Core.Path.{_≡_};
-ghost use Prim.Native.Nat.{_+_, _*_, _≤_};
+ghost use Prim.Native.Nat.{_+_, _*_, _%_, _≤_};
 ghost use lib.ListN.{length};
 ghost use Rattle.refusals.specs.Refusals.{told};
 ghost use Rattle.scene.specs.Words.{wordRead};
@@ -211,14 +211,18 @@ pub fn read_transform(scene: &[u32], transform_base: u32, trans_ix: u32) -> Tran
     }
 }
 
-// The word of the style's flags, whose address wraps.
+// The address of the style's flags, the one that wraps.
+fn flags_address(style_base: u32, style_ix: u32) -> u64
+    ensures { λ r. ⌜ r ≡ («style_base» + «style_ix») % 4294967296 ⌝ }
+{
+    std::num::wrapping_add_u32(style_base, style_ix) as u64
+}
+
+// The word of the style's flags.
 pub fn style_flags(scene: &[u32], style_base: u32, style_ix: u32) -> Word
     ensures { λ r. ⌜ told (wordRead r) ≡ told (flagsOf (now (scene .entry)) «style_base» «style_ix») ⌝ }
 {
-    word_at(
-        scene,
-        std::num::wrapping_add_u32(style_base, style_ix) as u64,
-    )
+    word_at(scene, flags_address(style_base, style_ix))
 }
 
 // The word of the line width, whose address does not wrap.

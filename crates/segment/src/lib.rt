@@ -1,7 +1,7 @@
 // What a segment draws: a fill, a stroke, or the cap where a stroke starts.
 ghost use mathlib.Core.Path.{_≡_};
 ghost use Rattle.drawing.specs.Sheet.{Drew};
-ghost use Rattle.segment.specs.Segment.{quarter, steadyOf, neighborOf, tangentsOf, edgesOf, sidesEvents, endEvents, strokeEvents, startCapEvents, shapeEvents};
+ghost use Rattle.segment.specs.Segment.{quarter, steadyOf, neighborOf, tangentsOf, edgesOf, sidesEvents, endEvents, strokeEvents, startCapEvents, fillEvents, shapeEvents};
 use curve::flatten_euler;
 use drawing::cap::draw_cap;
 use drawing::cubic::cubic_end_tangent;
@@ -203,6 +203,13 @@ fn stroke(
     )
 }
 
+// The curve alone: a subpath that the data leave open is not closed.
+fn fill(lines: &mut [u32], ink: Drawn, path: u32, cubic: [Vec2; 4], transform: [f32; 6]) -> Drawn
+    ensures { λ r. ⌜ Drew path (now (lines .entry)) ink (fillEvents transform cubic) (now (lines .exit)) r ⌝ }
+{
+    flatten_euler(lines, ink, path, cubic, transform, 0.0, cubic[0], cubic[3])
+}
+
 fn start_cap(
     lines: &mut [u32],
     ink: Drawn,
@@ -244,7 +251,7 @@ pub fn draw_shape(
 {
     match shape {
         Shape::Nothing => ink,
-        Shape::Fill => flatten_euler(lines, ink, path, cubic, transform, 0.0, cubic[0], cubic[3]),
+        Shape::Fill => fill(lines, ink, path, cubic, transform),
         Shape::StartCap(width) => start_cap(lines, ink, path, flags, cubic, transform, width),
         Shape::Stroke(width, neighbor) => stroke(
             lines,

@@ -1,4 +1,5 @@
 -- `drawing::arc::flatten_arc` meets its contract. Assumes nothing.
+use native.Mathlib.Omega.{arith}
 use Rattle.drawing.specs.Arc.{arcOf}
 use Rattle.drawing.specs.SheetLaws.{draws, as-many}
 use Rattle.drawing.proofs.Chords.{some-chord}
@@ -6,7 +7,7 @@ use Rattle.drawing.proofs.arc.flatten_arc.Statement.{statement}
 use Rattle.drawing.proofs.arc.flatten_arc.Tie as tie
 
 sub-draw-chords : tie.Need-sub-draw-chords
-sub-draw-chords c = some-chord _ _ (c .before .before .before .before .arc-count .ensures)
+sub-draw-chords c = omega (arith, some-chord _ _ (c .before .before .before .before .arc-count .ensures))
 
 returns : tie.Need-returns
 unfolding arcOf

@@ -6,15 +6,11 @@ use Rattle.flatten.proofs.step.turn_of.Tie as tie
 
 returns : tie.Need-returns
 unfolding turnOf
-returns c = rw (c .before .before .before .before .drawn .given .1, c .wrapping-add-u64 .ensures, c .before .one-less .ensures, c .before .before .change-of .ensures)
+returns c = rw (c .before .before .before .before .before .drawn .given .1, c .wrapping-add-u64 .ensures, c .before .one-less .ensures, c .before .before .change-of .ensures)
 
 returns-2 : tie.Need-returns-2
-unfolding turnOf
-returns-2 c = rw (c .before .before .before .drawn2 .given .1, c .change-of2 .ensures, c .before .empty .ensures)
+returns-2 c = rw (c .before .before .drawn2 .given .1) (c .stopped-at .ensures)
 
 pub turn-of-spec : {M : Type 1} → statement M
 turn-of-spec =
-    tie.close
-    (tie.spec
-    (λ c. search needs) (λ c. search needs) (λ c κs. tt) (λ c κs. tt) (λ c κs. tt) (λ c. search needs) (λ c κs. tt) (λ c κs. tt)
-    returns returns-2)
+    tie.close (tie.spec (λ c. search needs) (λ c. search needs) (λ c κs. tt) (λ c κs. tt) (λ c κs. tt) (λ c. search needs) (λ c κs. tt) returns returns-2)
