@@ -6,4 +6,5 @@ pub mod Feeding
 pub mod Squares
 pub mod Cubes
 pub mod Sums
+pub mod Products
 pub mod Candidates

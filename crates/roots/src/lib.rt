@@ -6,6 +6,8 @@
 // An f32 pattern has its exponent from 2 ^ 23 on, 0x80_0000, and from 0x7f80_0000 on it is no finite number's.
 mod cube;
 mod format;
+mod guess;
+mod narrow;
 mod square;
 mod sum;
 
