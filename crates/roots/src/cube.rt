@@ -14,7 +14,7 @@ ghost use Rattle.roots.specs.Parts.{CubeNear, rootBits, magBits, longSqu
 
 // The 24 digits nearest to the cube root of t * 2 ^ 22, from a candidate.
 fn settled(q: u32, t: u64) -> u32
-    requires { ⌜ (2 ^ 23 ≤ q) × (q < 2 ^ 24) × (t < 2 ^ 50) ⌝ }
+    requires { ⌜ (2 ^ 23 ≤ q) × (q < 2 ^ 24) × (0 < t) × (t < 2 ^ 50) ⌝ }
     ensures { λ r. ⌜ CubeNear t r ⌝ }
 {
     if is_near(q, t) {
@@ -25,7 +25,7 @@ fn settled(q: u32, t: u64) -> u32
 
 // The same, where the candidate itself is not surely the nearest.
 fn beside(q: u32, t: u64) -> u32
-    requires { ⌜ (2 ^ 23 ≤ q) × (q < 2 ^ 24) × (t < 2 ^ 50) ⌝ }
+    requires { ⌜ (2 ^ 23 ≤ q) × (q < 2 ^ 24) × (0 < t) × (t < 2 ^ 50) ⌝ }
     ensures { λ r. ⌜ CubeNear t r ⌝ }
 {
     if is_near(q - 1, t) {
@@ -39,7 +39,7 @@ fn beside(q: u32, t: u64) -> u32
 
 // The same, with the upper neighbour as the last candidate.
 fn above(q: u32, t: u64) -> u32
-    requires { ⌜ (q < 2 ^ 24) × (t < 2 ^ 50) ⌝ }
+    requires { ⌜ (q < 2 ^ 24) × (0 < t) × (t < 2 ^ 50) ⌝ }
     ensures { λ r. ⌜ CubeNear t r ⌝ }
 {
     if is_near(q, t) {

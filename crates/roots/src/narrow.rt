@@ -79,22 +79,18 @@ fn step3(x: Digits, g: u64) -> Digits
     requires { ⌜ (x .r < 2 ^ 25) × (x .square ≡ x .r * x .r) × (x .e ≤ 3 * (x .r * x .r) + 3 * x .r) × (g < 8) ⌝ }
     ensures { λ y. ⌜ Cubed ((x .r * x .r * x .r + x .e) * 8 + g) (y .r) (y .e) × (y .square ≡ y .r * y .r) × (y .r ≤ 2 * x .r + 1) ⌝ }
 {
-    let r = x.r;
+    let r = x.r + x.r;
     let n = (x.e << 3) + g;
     let s = x.square << 2;
-    let t = (s << 1) + s + (r << 2) + (r << 1) + 1;
+    let t = (s << 1) + s + (r << 1) + r + 1;
     if t <= n {
         Digits {
-            r: (r << 1) + 1,
-            square: s + (r << 2) + 1,
+            r: r + 1,
+            square: s + (r << 1) + 1,
             e: n - t,
         }
     } else {
-        Digits {
-            r: r << 1,
-            square: s,
-            e: n,
-        }
+        Digits { r, square: s, e: n }
     }
 }
 
@@ -122,7 +118,7 @@ fn root25(t: u64) -> Digits
 
 // The 24 digits nearest to the cube root of t * 2 ^ 22, half of that of t * 2 ^ 25. That is even, so it is no cube of an odd number, and never in the middle.
 pub(crate) fn by_digits(t: u64) -> u32
-    requires { ⌜ t < 2 ^ 50 ⌝ }
+    requires { ⌜ (0 < t) × (t < 2 ^ 50) ⌝ }
     ensures { λ q. ⌜ CubeNear t q ⌝ }
 {
     let x = root25(t);

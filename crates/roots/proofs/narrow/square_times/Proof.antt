@@ -1,69 +1,42 @@
+-- `roots::narrow::square_times` meets its contract. Assumes nothing.
+use Prim.Native.Nat.{_*_, _/_, _%_, _≤_}
+use native.Mathlib.Omega.{arith}
+use Rattle.roots.proofs.Products.{part-le, square-times-is}
 use Rattle.roots.proofs.narrow.square_times.Statement.{statement}
 use Rattle.roots.proofs.narrow.square_times.Tie as tie
-use Rattle.roots.proofs.narrow.square_times.Reads as reads
-use Rattle.roots.proofs.narrow.square_times.Lts as lts
 
--- src/narrow.rt:65:18
-mul-high : tie.Need-mul-high
-mul-high c = ?
+-- no product of parts is above 32 digits
+hh : (c : tie.Start) → c .args .m / 4096 * (c .args .m / 4096) ≤ 16769025
+hh c = let p = c .pre in part-le _ _ 4095 4095 (omega arith) (omega arith)
 
--- src/narrow.rt:65:18
-mul-high-2 : tie.Need-mul-high-2
-mul-high-2 c = ?
+hl : (c : tie.Start) → c .args .m / 4096 * (c .args .m % 4096) ≤ 16769025
+hl c = let p = c .pre in part-le _ _ 4095 4095 (omega arith) (omega arith)
 
--- src/narrow.rt:65:17
-cast-high : tie.Need-cast-high
-cast-high c = ?
+ll : (c : tie.Start) → c .args .m % 4096 * (c .args .m % 4096) ≤ 16769025
+ll c = part-le _ _ 4095 4095 (omega arith) (omega arith)
 
--- src/narrow.rt:66:17
-mul-mid : tie.Need-mul-mid
-mul-mid c = ?
+hhw : (c : tie.Start) → c .args .m / 4096 * (c .args .m / 4096) * c .args .w ≤ 134152200
+hhw c = part-le _ _ 16769025 8 (hh c) (c .pre .1)
 
--- src/narrow.rt:66:17
-mul-mid-2 : tie.Need-mul-mid-2
-mul-mid-2 c = ?
+hlw : (c : tie.Start) → c .args .m / 4096 * (c .args .m % 4096) * c .args .w ≤ 134152200
+hlw c = part-le _ _ 16769025 8 (hl c) (c .pre .1)
 
--- src/narrow.rt:66:16
-cast-mid : tie.Need-cast-mid
-cast-mid c = ?
-
--- src/narrow.rt:67:5
-add-result : tie.Need-add-result
-add-result c = ?
-
--- src/narrow.rt:67:19
-mul-result : tie.Need-mul-result
-mul-result c = ?
-
--- src/narrow.rt:67:19
-mul-result-2 : tie.Need-mul-result-2
-mul-result-2 c = ?
-
--- src/narrow.rt:67:18
-cast-result : tie.Need-cast-result
-cast-result c = ?
-
--- src/narrow.rt:67:5
-add-result-2 : tie.Need-add-result-2
-add-result-2 c = ?
-
--- src/narrow.rt:59:1
-returns : tie.Need-returns
-returns c = ?
+llw : (c : tie.Start) → c .args .m % 4096 * (c .args .m % 4096) * c .args .w ≤ 134152200
+llw c = part-le _ _ 16769025 8 (ll c) (c .pre .1)
 
 pub square-times-spec : {M : Type 1} → statement M
 square-times-spec =
     tie.close
     (tie.spec
-    mul-high
-    mul-high-2
-    cast-high
-    mul-mid
-    mul-mid-2
-    cast-mid
-    add-result
-    mul-result
-    mul-result-2
-    cast-result
-    add-result-2
-    returns)
+    (λ c. omega (arith, hh c))
+    (λ c. omega (arith, hhw c))
+    (λ c. omega (arith, hhw c))
+    (λ c. omega (arith, hl c))
+    (λ c. omega (arith, hlw c))
+    (λ c. omega (arith, hlw c))
+    (λ c. omega (arith, hhw c, hlw c))
+    (λ c. omega (arith, ll c))
+    (λ c. omega (arith, llw c))
+    (λ c. omega (arith, llw c))
+    (λ c. omega (arith, hhw c, hlw c, llw c))
+    (λ c. omega (arith, hhw c, hlw c, square-times-is (c .args .m) (c .args .w))))
