@@ -80,7 +80,7 @@ pub(crate) fn cbrt_bits(b: u32) -> u32
 
 // 1 where the square of m has 48 digits, 0 where it has 47.
 fn long_square(m: u32) -> u32
-    ensures { λ g. ⌜ g ≡ longSquare m ⌝ }
+    ensures { λ g. ⌜ (g ≡ longSquare m) × (g ≤ 1) ⌝ }
 {
     if m < 11863284 { 0 } else { 1 }
 }
