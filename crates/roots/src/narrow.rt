@@ -67,30 +67,39 @@ pub(crate) fn square_times(m: u32, w: u32) -> u64
     high + mid + (l * l * w) as u64
 }
 
-// A cube root's whole part r, its square, and the remainder e: the number is r³ + e.
+// A cube root's whole part r, three times that, 3 r² + 3 r, and the remainder e: the number is r³ + e. Twelve or six times something, even by shifts and sums, a compiler
+// may make a wide product of.
 struct Digits {
     r: u64,
-    square: u64,
+    triple: u64,
+    most: u64,
     e: u64,
 }
 
 // One more digit of a cube root: the number gets three binary digits more, g. The root is 2 r + 1 where (2 r + 1)³ = 8 r³ + 12 r² + 6 r + 1 is still in it, else 2 r.
 fn step3(x: Digits, g: u64) -> Digits
-    requires { ⌜ (x .r < 2 ^ 25) × (x .square ≡ x .r * x .r) × (x .e ≤ 3 * (x .r * x .r) + 3 * x .r) × (g < 8) ⌝ }
-    ensures { λ y. ⌜ Cubed ((x .r * x .r * x .r + x .e) * 8 + g) (y .r) (y .e) × (y .square ≡ y .r * y .r) × (y .r ≤ 2 * x .r + 1) ⌝ }
+    requires { ⌜ (x .r < 2 ^ 25) × (x .triple ≡ 3 * x .r) × (x .most ≡ 3 * (x .r * x .r) + 3 * x .r) × (x .e ≤ 3 * (x .r * x .r) + 3 * x .r) × (g < 8) ⌝ }
+    ensures { λ y. ⌜ Cubed ((x .r * x .r * x .r + x .e) * 8 + g) (y .r) (y .e) × (y .triple ≡ 3 * y .r) × (y .most ≡ 3 * (y .r * y .r) + 3 * y .r) × (y .r ≤ 2 * x .r + 1) ⌝ }
 {
     let r = x.r + x.r;
+    let triple = x.triple + x.triple;
+    let most = x.most << 2;
     let n = (x.e << 3) + g;
-    let s = x.square << 2;
-    let t = (s << 1) + s + (r << 1) + r + 1;
-    if t <= n {
+    let less = most - triple;
+    if less < n {
         Digits {
             r: r + 1,
-            square: s + (r << 1) + 1,
-            e: n - t,
+            triple: triple + 3,
+            most: most + triple + 6,
+            e: n - less - 1,
         }
     } else {
-        Digits { r, square: s, e: n }
+        Digits {
+            r,
+            triple,
+            most: less,
+            e: n,
+        }
     }
 }
 
@@ -100,20 +109,22 @@ fn root25(t: u64) -> Digits
     ensures { λ x. ⌜ Cubed (t * 2 ^ 25) (x .r) (x .e) × (x .r < 2 ^ 25) ⌝ }
 {
     let mut r = 0u64;
-    let mut square = 0u64;
+    let mut triple = 0u64;
+    let mut most = 0u64;
     let mut e = 0u64;
     let mut w = t << 13;
     let mut i = 0u64;
     while i < 25 {
         let g = w >> 60;
-        let x = step3(Digits { r, square, e }, g);
+        let x = step3(Digits { r, triple, most, e }, g);
         r = x.r;
-        square = x.square;
+        triple = x.triple;
+        most = x.most;
         e = x.e;
         w = (w - (g << 60)) << 3;
         i = i + 1;
     }
-    Digits { r, square, e }
+    Digits { r, triple, most, e }
 }
 
 // The 24 digits nearest to the cube root of t * 2 ^ 22, half of that of t * 2 ^ 25. That is even, so it is no cube of an odd number, and never in the middle.

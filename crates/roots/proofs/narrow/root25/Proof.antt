@@ -9,17 +9,17 @@ use Rattle.roots.proofs.narrow.root25.Statement.{statement}
 use Rattle.roots.proofs.narrow.root25.Tie as tie
 
 abbrev Inv-loop : tie.InvT-loop
-Inv-loop t r₀ square₀ e₀ w₀ i₀ r square e w i =
-    (i ≤ 25) × (e ≤ 3 * (r * r) + 3 * r) × (w < 2 ^ 63) × (r + 1 ≤ 1 * 2 ^ i) × (square ≡ r * r) × ((r * r * r + e) * 2 ^ 63 + w ≡ t * 2 ^ 13 * 8 ^ i)
+Inv-loop t r₀ triple₀ most₀ e₀ w₀ i₀ r triple most e w i =
+    (i ≤ 25) × (e ≤ 3 * (r * r) + 3 * r) × (w < 2 ^ 63) × (r + 1 ≤ 1 * 2 ^ i) × ((triple ≡ 3 * r) × (most ≡ 3 * (r * r) + 3 * r)) × ((r * r * r + e) * 2 ^ 63 + w ≡ t * 2 ^ 13 * 8 ^ i)
 
 abbrev μ-loop : tie.MeasureT-loop
-μ-loop t r₀ square₀ e₀ w₀ i₀ r square e w i = 25 - i
+μ-loop t r₀ triple₀ most₀ e₀ w₀ i₀ r triple most e w i = 25 - i
 
 loop-holds : tie.Need-loop-holds Inv-loop μ-loop
-loop-holds c = (omega arith, omega arith, omega arith, lit≤ tt, omega arith, omega arith)
+loop-holds c = (omega arith, omega arith, omega arith, lit≤ tt, (omega arith, omega arith), omega arith)
 
 step3-requires : tie.Need-step3-requires Inv-loop μ-loop
-step3-requires c κs = let v = c .before .loop .inv in (bounded 1 _ _ 24 (2 ^ 25) (v .3) (omega arith) (lit≤ tt), v .4, v .1, omega arith)
+step3-requires c κs = let v = c .before .loop .inv in (bounded 1 _ _ 24 (2 ^ 25) (v .3) (omega arith) (lit≤ tt), v .4 .0, v .4 .1, v .1, omega arith)
 
 -- what is left, moved up by three digits
 moved : (w : ℕ) → w < 2 ^ 63 → (w - w / 2 ^ 60 * 2 ^ 60 % 2 ^ 64) * 8 % 2 ^ 64 ≡ w % 2 ^ 60 * 8
@@ -31,7 +31,7 @@ loop-again c =
     let g = c .step3 .ensures in
     let a = c .step3 .result .r * c .step3 .result .r * c .step3 .result .r + c .step3 .result .e in
     let m = moved (c .before .before .loop .w) (v .2) in
-    (omega arith, g .0 .rest, omega arith, grown _ _ _ _ (v .3) (g .2), g .1, ap (λ (x : ℕ). a * 2 ^ 63 + x) m ∙ fed 8 (2 ^ 60) _ _ _ _ _ (v .5) (g .0 .value))
+    (omega arith, g .0 .rest, omega arith, grown _ _ _ _ (v .3) (g .3), (g .1, g .2), ap (λ (x : ℕ). a * 2 ^ 63 + x) m ∙ fed 8 (2 ^ 60) _ _ _ _ _ (v .5) (g .0 .value))
 
 all-read : (t : ℕ) → t * 2 ^ 13 * 8 ^ 25 / 2 ^ 63 ≡ t * 2 ^ 25
 all-read t = omega arith

@@ -11,59 +11,66 @@ use Rattle.roots.proofs.narrow.step3.Tie as tie
 square-le : (r : ℕ) → r < 2 ^ 25 → r * r ≤ 2 ^ 50
 square-le r h = mul-le-mul (le-of-lt h) (le-of-lt h)
 
-at-known3 : (c : tie.After-struct-known3) → c .before .before .before .args .x .r * c .before .before .before .args .x .r ≤ 2 ^ 50
-at-known3 c = square-le (c .before .before .before .args .x .r) (c .before .before .before .pre .0)
+-- the shifts lose nothing
+four-times : (m r : ℕ) → m ≡ 3 * (r * r) + 3 * r → r < 2 ^ 25 → m * 4 % 18446744073709551616 ≡ 12 * (r * r) + 12 * r
+four-times m r e h = omega (arith, square-le r h)
 
-at-then : (c : tie.Then1) → c .before .before .before .before .args .x .r * c .before .before .before .before .args .x .r ≤ 2 ^ 50
-at-then c = square-le (c .before .before .before .before .args .x .r) (c .before .before .before .before .pre .0)
+eight-times : (e r g : ℕ) → e ≤ 3 * (r * r) + 3 * r → r < 2 ^ 25 → e * 8 % 18446744073709551616 + g ≡ e * 8 + g
+eight-times e r g l h = omega (arith, square-le r h)
 
-add-n : tie.Need-add-n
-add-n c = omega (arith, square-le (c .before .before .args .x .r) (c .before .before .pre .0))
+module _ (r e g m b n : ℕ) (M : m ≡ 12 * (r * r) + 12 * r) (B : b ≡ 3 * r) (N : n ≡ e * 8 + g) (E : e ≤ 3 * (r * r) + 3 * r) (G : g < 8) where
+  -- the root is 2 r + 1
+  one-more : m - (b + b) < n
+      → Cubed ((r * r * r + e) * 8 + g) (r + r + 1) (n - (m - (b + b)) - 1) × (b + b + 3 ≡ 3 * (r + r + 1)) × (m + (b + b) + 6 ≡ 3 * ((r + r + 1) * (r + r + 1)) + 3 * (r + r + 1)) × (r + r + 1 ≤ 2 * r + 1)
+  one-more h = (record { value = omega arith; rest = omega arith }, omega arith, omega arith, omega arith)
 
--- the root is 2 r + 1
-one-more : (r e g n t q : ℕ) → n ≡ e * 8 + g → t ≡ 12 * (r * r) + 6 * r + 1 → q ≡ 4 * (r * r) + 4 * r + 1 → t ≤ n → e ≤ 3 * (r * r) + 3 * r → g < 8
-    → Cubed ((r * r * r + e) * 8 + g) (r + r + 1) (n - t) × (q ≡ (r + r + 1) * (r + r + 1)) × (r + r + 1 ≤ 2 * r + 1)
-one-more r e g n t q N T Q h l k = (record { value = omega arith; rest = omega arith }, omega arith, omega arith)
+  -- it is 2 r
+  no-more : n ≤ m - (b + b) → Cubed ((r * r * r + e) * 8 + g) (r + r) n × (b + b ≡ 3 * (r + r)) × (m - (b + b) ≡ 3 * ((r + r) * (r + r)) + 3 * (r + r)) × (r + r ≤ 2 * r + 1)
+  no-more h = (record { value = omega arith; rest = omega arith }, omega arith, omega arith, omega arith)
 
-four : (s r : ℕ) → s ≡ r * r → r * r ≤ 2 ^ 50 → s * 4 % 18446744073709551616 ≡ 4 * (r * r)
-four s r e h = omega arith
+sub-less : tie.Need-sub-less
+sub-less c =
+    let x = c .before .before .before .before .args .x in
+    let p = c .before .before .before .before .pre in
+    omega (arith, p .1, four-times (x .most) (x .r) (p .2) (p .0))
 
-twelve : (s r : ℕ) → s ≡ 4 * (r * r) → r * r ≤ 2 ^ 50 → r < 2 ^ 25 → s * 2 % 18446744073709551616 + s + (r + r) * 2 % 18446744073709551616 + (r + r) + 1 ≡ 12 * (r * r) + 6 * r + 1
-twelve s r e h k =
-    let a : s * 2 % 18446744073709551616 ≡ s * 2 = omega arith in
-    let b : (r + r) * 2 % 18446744073709551616 ≡ 4 * r = omega arith in
-    omega (arith, a, b, e)
+add-t13 : tie.Need-add-t13
+add-t13 c =
+    let x = c .before .before .before .before .before .args .x in
+    let p = c .before .before .before .before .before .pre in
+    omega (arith, p .1, square-le (x .r) (p .0), four-times (x .most) (x .r) (p .2) (p .0))
 
-next-square : (s r : ℕ) → s ≡ 4 * (r * r) → r < 2 ^ 25 → s + (r + r) * 2 % 18446744073709551616 + 1 ≡ 4 * (r * r) + 4 * r + 1
-next-square s r e k = omega arith
-
-eight : (e r g : ℕ) → e ≤ 3 * (r * r) + 3 * r → r * r ≤ 2 ^ 50 → r < 2 ^ 25 → e * 8 % 18446744073709551616 + g ≡ e * 8 + g
-eight e r g h k l = omega arith
+add-t14 : tie.Need-add-t14
+add-t14 c =
+    let x = c .before .before .before .before .before .args .x in
+    let p = c .before .before .before .before .before .pre in
+    omega (arith, p .1, square-le (x .r) (p .0), four-times (x .most) (x .r) (p .2) (p .0))
 
 returns : tie.Need-returns
 returns c =
-    let x = c .before .before .before .before .args .x in
-    let p = c .before .before .before .before .pre in
-    let s = four (x .square) (x .r) (p .1) (at-then c) in
-    one-more _ _ _ _ _ _ (eight _ (x .r) _ (p .2) (at-then c) (p .0)) (twelve _ (x .r) s (at-then c) (p .0)) (next-square _ (x .r) s (p .0)) (c .if1 .taken) (p .2) (p .3)
+    let x = c .before .before .before .before .before .args .x in
+    let p = c .before .before .before .before .before .pre in
+    one-more (x .r) _ _ _ _ _ (four-times _ _ (p .2) (p .0)) (p .1) (eight-times _ (x .r) _ (p .3) (p .0)) (p .3) (p .4) (c .if1 .taken)
 
 returns-2 : tie.Need-returns-2
 returns-2 c =
-    let l = square-le (c .before .before .before .before .args .x .r) (c .before .before .before .before .pre .0) in
-    (record { value = omega (arith, l); rest = omega (arith, l) }, omega (arith, l), omega arith)
+    let x = c .before .before .before .before .before .args .x in
+    let p = c .before .before .before .before .before .pre in
+    no-more (x .r) _ _ _ _ _ (four-times _ _ (p .2) (p .0)) (p .1) (eight-times _ (x .r) _ (p .3) (p .0)) (p .3) (p .4) (c .if1 .left)
 
 pub step3-spec : {M : Type 1} → statement M
 step3-spec =
     tie.close
     (tie.spec
     (λ c. search needs)
-    add-n
-    (λ c. omega (arith, at-known3 c))
-    (λ c. omega (arith, at-known3 c))
-    (λ c. omega (arith, at-known3 c))
-    (λ c. omega (arith, at-known3 c))
     (λ c. search needs)
-    (λ c. omega (arith, at-then c))
-    (λ c. omega (arith, at-then c))
+    (λ c. search needs)
+    sub-less
+    (λ c. search needs)
+    (λ c. search needs)
+    add-t13
+    add-t14
+    (λ c. search needs)
+    (λ c. search needs)
     returns
     returns-2)
