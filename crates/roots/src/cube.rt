@@ -1,7 +1,7 @@
-// Cube roots, of a number and of a square, with no product above 32 binary digits and no f64: for processors without either.
+// Cube roots, of a number and of a square, with no product above 32 binary digits, no f64 and no wide division: for processors that have none of these.
 //
-// A candidate is made by f32 arithmetic (`guess`) and checked by whole numbers (`narrow`). Where it fails the check its neighbours are tried, and behind these the root is
-// taken digit by digit.
+// A candidate is made by f32 arithmetic (`guess`) and checked by whole numbers (`narrow`). Where it is not surely the nearest its neighbours are tried, and behind these
+// the root is taken digit by digit. `tools/narrow-test` holds the compiled functions to the rule.
 use crate::format::unpack;
 use crate::guess::cbrt_guess;
 use crate::guess::two_thirds_guess;
@@ -48,7 +48,7 @@ fn above(q: u32, t: u64) -> u32
     by_digits(t)
 }
 
-// n / 3, without a division.
+// n / 3, without a division: 683 / 2048 is so little above a third that nothing is lost below 2048.
 fn third(n: u32) -> u32
     requires { ⌜ n < 2048 ⌝ }
     ensures { λ r. ⌜ r ≡ n / 3 ⌝ }
@@ -78,7 +78,7 @@ pub(crate) fn cbrt_bits(b: u32) -> u32
     d * 0x80_0000 + settled(cbrt_guess(m, r), t)
 }
 
-// 1 where the square of m has 48 digits, 0 where it has 47.
+// 1 where the square of m has 48 digits, 0 where it has 47: √2 * 2 ^ 23 lies between 11863283 and 11863284.
 fn long_square(m: u32) -> u32
     ensures { λ g. ⌜ (g ≡ longSquare m) × (g ≤ 1) ⌝ }
 {

@@ -8,12 +8,12 @@ fn lift(r: u32) -> f32
     f32::from_bits(0x3f80_0000 + r * (r * 138 + 927) * 2048)
 }
 
-// v without the digits behind its tenth after the point, of v below 4096.
+// v to ten binary digits after the point, of v from 0 to 4096: the sum has no more.
 fn cut(v: f32) -> f32 {
     v + 12288.0 - 12288.0
 }
 
-// Ten digits after the point of the cube root of v * 2 ^ r, of v from 1 to 2: by a polynomial within 2 ^ -10.6.
+// The cube root of v * 2 ^ r to ten digits after the point, of v from 1 to 2: the polynomial is within 2 ^ -10.6 of that of v.
 fn start(v: f32, r: u32) -> f32
     requires { ⌜ r < 3 ⌝ }
 {

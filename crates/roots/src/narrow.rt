@@ -67,8 +67,8 @@ pub(crate) fn square_times(m: u32, w: u32) -> u64
     high + mid + (l * l * w) as u64
 }
 
-// A cube root's whole part r, three times that, 3 r² + 3 r, and the remainder e: the number is r³ + e. Twelve or six times something, even by shifts and sums, a compiler
-// may make a wide product of.
+// A cube root's whole part r, 3 r, 3 r² + 3 r, and the remainder e: the number is r³ + e. With these no step takes twelve or six times anything, of which a compiler
+// makes a wide product even where it is written in shifts and sums.
 struct Digits {
     r: u64,
     triple: u64,
