@@ -1,9 +1,9 @@
--- Squares and products by parts, the check of a cube root by these, and a root that is taken digit by digit. Assumes nothing.
-use mathlib.Core.Path.{_≡_, refl, sym, ap, _∙_, subst}
+-- Squares and products by parts, and the test of a cube root by these. Assumes nothing.
+use mathlib.Core.Path.{_≡_, refl, ap, subst}
 use Prim.Native.Nat.{ℕ, zero, suc, _+_, _-_, _*_, _/_, _%_, _^_, _≤_, _<_}
-use native.Mathlib.Nat.{mul-le-mul, le-of-lt, div-add-mod', lt-irrefl}
+use native.Mathlib.Nat.{mul-le-mul, div-add-mod'}
 use native.Mathlib.Omega.{arith}
-use Rattle.roots.specs.Parts.{CubeNear, Cubed}
+use Rattle.roots.specs.Parts.{CubeNear}
 
 pub square-le : (q : ℕ) → q < 2 ^ 24 → q * q ≤ 281474943156225
 square-le q h = mul-le-mul {n₂ = 16777215} {m₂ = 16777215} (omega arith) (omega arith)
@@ -37,7 +37,7 @@ pub part-le : (x y m n : ℕ) → x ≤ m → y ≤ n → x * y ≤ m * n
 part-le x y m n h k = mul-le-mul h k
 
 -- ---- `is_near`: n * 2 ^ 16 + low is q², and n * q + low * (q / 2 ^ 16) is q³ / 2 ^ 16 but for less than 2 ^ 16
-module _ (t q n low : ℕ) (Q : q < 2 ^ 24) (T : t < 2 ^ 50) (is : n * 65536 + low ≡ q * q) (L : low < 65536) where
+module _ (q n low : ℕ) (Q : q < 2 ^ 24) (is : n * 65536 + low ≡ q * q) (L : low < 65536) where
   rest-le : low * (q % 65536) ≤ 4294836225
   rest-le = mul-le-mul {n₂ = 65535} {m₂ = 65535} (omega arith) (omega arith)
 
@@ -53,7 +53,7 @@ module _ (t q n low : ℕ) (Q : q < 2 ^ 24) (T : t < 2 ^ 50) (is : n * 65536 + l
   pub high-fits : n ≤ 4294967295
   high-fits = omega (arith, is, square-le q Q)
 
-  module _ (c : ℕ) (C : c ≡ n * q) where
+  module _ (t c : ℕ) (T : t < 2 ^ 50) (C : c ≡ n * q) where
     under : t * 64 ≤ c + low * (q / 65536) + (n + n / 2) → t * 2 ^ 25 < (2 * q + 1) * (2 * q + 1) * (2 * q + 1)
     under h = omega (arith, C, cube-is, is)
 

@@ -1,7 +1,7 @@
 // Whole squares and cubes by products of parts, none above 32 binary digits. Shifts and sums put the parts together.
 ghost use mathlib.Core.Path.{_≡_};
 ghost use mathlib.Core.Bool.{true};
-ghost use Prim.Native.Nat.{_+_, _*_, _/_, _%_, _^_, _≤_, _<_};
+ghost use Prim.Native.Nat.{_+_, _*_, _^_, _≤_, _<_};
 ghost use Rattle.roots.specs.Parts.{CubeNear, Cubed};
 
 // A square: its last 16 digits, and what stands before them.

@@ -1,6 +1,6 @@
 -- `roots::cube::two_thirds_bits` meets its contract, by the laws of `Cubes`. Assumes nothing.
 use mathlib.Core.Path.{subst, sym}
-use Prim.Native.Nat.{ℕ, _*_, _^_, _≤_, _<_}
+use Prim.Native.Nat.{ℕ, _^_, _≤_, _<_}
 use native.Mathlib.Omega.{arith}
 use borrow.Author.Needs.{needs}
 use Rattle.roots.proofs.Cubes.{factor-le, square-least, square-most, near-most, two-thirds-is}

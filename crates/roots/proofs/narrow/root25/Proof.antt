@@ -3,7 +3,6 @@ use mathlib.Core.Path.{_≡_, ap, _∙_}
 use Prim.Native.Nat.{ℕ, _+_, _*_, _-_, _/_, _%_, _^_, _≤_, _<_}
 use lib.Dec.{lit≤}
 use native.Mathlib.Omega.{arith}
-use borrow.Author.Needs.{needs}
 use Rattle.roots.proofs.Feeding.{fed, done, grown, bounded}
 use Rattle.roots.proofs.narrow.root25.Statement.{statement}
 use Rattle.roots.proofs.narrow.root25.Tie as tie
