@@ -1,6 +1,6 @@
 /*
  * The C interface of Hinthevoun. Link target/staticlib/libexports.a, written by `tools/staticlib exports`; it asks for no
- * other library, not even C's.
+ * other library, not even C's. `tools/library` writes libhinthevoun.so beside it, with the same functions.
  *
  * Every function answers for every argument. None keeps state, allocates, touches memory that it is not lent or reports
  * errors in another way than by its answer. Results are meant bit for bit, with one exception: a float answer that is
@@ -99,9 +99,10 @@ float hinth_acos(float x);
  *   2  a read of the scene falls outside it, or an address passes 2^32 - 1
  *   3  a prefix that a tag needs is not lent
  *   4  a path tag names a box that is not lent
- *   5  a line would have a coordinate that is not a number, or the count of a curve's pieces is not a number
+ *   5  a line would have a coordinate that is not a number; hinth_flatten tells at which end
  *   6  there is no room for the next line, or the count of lines would be 2^32
  *   7  a join is drawn and the style's two join bits are 3
+ *   8  the count of a curve's pieces is not a number
  */
 
 /*
@@ -138,9 +139,11 @@ struct hinth_box {
  * INT32_MAX and x1 and y1 as INT32_MIN to begin with.
  *
  * out[0] is the index of the tag in turn at a refusal, 0 if accepted or for refusal 1; out[1] is the count of whole
- * lines stored. If out_len is under 2 neither is written; nothing else of out is ever written. At a refusal the lines
- * stored stand, and the boxes hold what the tags before the one in turn did, with flags and transform index of that one
- * if it had stored them.
+ * lines stored. If out_len is under 2 neither is written. out[2], where out_len is 3 or more, says which end of the
+ * line is not a number at refusal 5: 1 its start (then its end may be none too), 2 its end alone; 0 at any other answer.
+ * Start and end are those of the line as it would be stored. Nothing else of out is ever written. At a refusal the
+ * lines stored stand, and the boxes hold what the tags before the one in turn did, with flags and transform index of
+ * that one if it had stored them.
  */
 uint32_t hinth_flatten(uint32_t n_wg, uint32_t tag_base, uint32_t data_base, uint32_t transform_base,
                        uint32_t style_base, const uint32_t *scene, size_t scene_len, const uint32_t *prefixes,

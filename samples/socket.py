@@ -1,8 +1,9 @@
 #!/usr/bin/env python3
 """Writes samples/socket.sheet: the panel of a socket brim, as a pattern maker would lay it out.
 
-The brim is one filled path with an oval opening in it, lines and curves in f32 points. A seam is stroked over it,
-2 units wide, with round joins and round caps. Device units are half a millimetre: the transform scales by 2.
+The brim is one filled path with an oval opening in it, lines and curves in f32 points. Both outlines run the same way
+round, so the style has the even-odd rule: by the other one the opening would be inked. A seam is stroked over it, 2 units
+wide, with round joins and round caps. Device units are half a millimetre: the transform scales by 2.
 docs/SCENE.md says what the words mean.
 """
 import struct
@@ -10,6 +11,7 @@ from pathlib import Path
 
 LINE, QUAD, CUBIC, END, F32, PATH, TRANSFORM, STYLE = 1, 2, 3, 4, 8, 16, 32, 64
 ROUND_STROKE = 0x80000000 | 0x20000000 | 0x08000000 | 0x02000000 | 0x4400
+EVEN_ODD_FILL = 0x40000000
 
 tags, points = [], []
 
@@ -49,7 +51,7 @@ tags += [0] * (256 - len(tags))
 data_base = 64
 data = [word(c) for p in points for c in p]
 transform = [word(c) for c in (2, 0, 0, 2, 0, 0)]
-styles = [0, 0, ROUND_STROKE, word(2.0)]
+styles = [EVEN_ODD_FILL, 0, ROUND_STROKE, word(2.0)]
 scene = [int.from_bytes(bytes(tags[i:i + 4]), "little") for i in range(0, 256, 4)] + data + transform + styles
 transform_base = data_base + len(data)
 head = [1, 0, data_base, transform_base, transform_base + len(transform), 2]

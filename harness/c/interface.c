@@ -27,9 +27,11 @@ static void check(const char *what, int right) {
 
 /* A triangle: its tags at word 0, points at 64, transform at 68, style at 74; and what is stored of it. */
 #define SCENE_LEN 76
-static const uint32_t triangle[SCENE_LEN] = {
+#define TRANSFORM 68
+#define STYLE 74
+static uint32_t triangle[SCENE_LEN] = {
     [0] = 0x01014020u, 0x00001005u, [64] = 0x00000000u, 0x00000003u, 0x00060000u, 0x00000000u,
-    [68] = 0x3f800000u, 0, 0, 0x3f800000u, 0, 0, [74] = 0, 0};
+    [TRANSFORM] = 0x3f800000u, 0, 0, 0x3f800000u, 0, 0, [STYLE] = 0, 0};
 static const uint32_t triangle_lines[18] = {0, 0, 0, 0, 0x40400000u, 0, 0, 0, 0x40400000u,
                                             0, 0, 0x40c00000u, 0, 0, 0, 0x40c00000u, 0, 0};
 
@@ -37,7 +39,7 @@ static const uint32_t triangle_lines[18] = {0, 0, 0, 0, 0x40400000u, 0, 0, 0, 0x
 #define MARK 0xa5a5a5a5u
 static uint32_t prefixes[4 * SCENE_LEN + 1], lines[19];
 static struct hinth_box box;
-static uint64_t out[3];
+static uint64_t out[4];
 
 static void prepare(void) {
     const struct hinth_box fresh = {INT32_MAX, INT32_MAX, INT32_MIN, INT32_MIN, 7, 7};
@@ -66,8 +68,23 @@ static uint32_t scan(uint32_t tag_base, size_t out_len) {
 
 static uint32_t flatten(uint32_t data_base, size_t n_boxes, size_t line_words, size_t out_len) {
     scan(0, 0);
-    return hinth_flatten(1, 0, data_base, 68, 74, triangle, SCENE_LEN, prefixes, 4 * SCENE_LEN, &box, n_boxes, lines,
+    return hinth_flatten(1, 0, data_base, TRANSFORM, STYLE, triangle, SCENE_LEN, prefixes, 4 * SCENE_LEN, &box, n_boxes, lines,
                          line_words, out, out_len);
+}
+
+/* a stroke that is moved by NaN starts nowhere; one of width NaN has no count */
+static void not_numbers(void) {
+    triangle[STYLE] = 0x80000000u;
+    triangle[STYLE + 1] = 0x3f800000u;
+    triangle[TRANSFORM + 4] = 0x7fc00000u;
+    CHECK(flatten(64, 1, 19, 3) == 5 && out[0] == 2 && out[1] == 0 && out[2] == 1 && out[3] == MARK && stored(0));
+    CHECK(flatten(64, 1, 19, 2) == 5 && out[0] == 2 && out[1] == 0 && out[2] == MARK);
+    CHECK(flatten(64, 1, 19, 1) == 5 && out[0] == MARK);
+    triangle[TRANSFORM + 4] = 0;
+    triangle[STYLE + 1] = 0x7fc00000u;
+    CHECK(flatten(64, 1, 19, 3) == 8 && out[0] == 2 && out[1] == 0 && out[2] == 0 && stored(0));
+    triangle[STYLE] = 0;
+    triangle[STYLE + 1] = 0;
 }
 
 static void paths(void) {
@@ -82,12 +99,13 @@ static void paths(void) {
     CHECK(flatten(64, 1, 19, 2) == 0 && out[0] == 0 && out[1] == 3 && out[2] == MARK);
     CHECK(stored(18) && boxed(0, 0));
     CHECK(flatten(64, 1, 19, 1) == 0 && out[0] == MARK && out[1] == MARK && stored(18) && boxed(0, 0));
-    CHECK(flatten(64, 1, 19, 3) == 0 && out[1] == 3 && out[2] == MARK);
+    CHECK(flatten(64, 1, 19, 3) == 0 && out[1] == 3 && out[2] == 0 && out[3] == MARK);
     CHECK(flatten(64, 1, 12, 2) == 6 && out[0] == 4 && out[1] == 2);
     CHECK(stored(12) && boxed(7, 7));
     CHECK(flatten(64, 0, 19, 2) == 4 && out[0] == 5 && out[1] == 3);
     CHECK(stored(18) && box.x0 == INT32_MAX);
     CHECK(flatten(SCENE_LEN + 1, 1, 19, 2) == 1 && out[0] == 0 && out[1] == 0 && stored(0));
+    not_numbers();
 }
 
 int main(void) {

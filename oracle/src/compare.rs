@@ -3,11 +3,12 @@
 use std::collections::BTreeMap;
 use std::thread;
 
-use hinthevoun::{Layout, PathBox, Refusal};
+use hinthevoun::{Layout, LineEnd, PathBox, Refusal};
 use vello_encoding::PathBbox;
 
 use crate::scenes::{Scene, scene};
 use crate::shrink::shrink;
+use crate::stops::Stop;
 use crate::whole::{EMPTY_BOX, Given, Told, scan};
 
 /// What stands behind each lent list, so that a store past the end is seen.
@@ -26,7 +27,7 @@ fn ours(b: &PathBbox) -> PathBox {
 /// What a call leaves, the guards with it.
 #[derive(Debug, PartialEq, Eq)]
 struct Left {
-    number: u32,
+    stop: Stop,
     tag: u64,
     count: u64,
     words: Vec<u32>,
@@ -36,7 +37,7 @@ struct Left {
 fn source_scan(given: &Given) -> Left {
     let mut prefixes = given.prefixes.clone();
     let (number, count) = scan(&given.scene, given.tag_base, &mut prefixes);
-    Left { number, tag: 0, count, words: guarded(&prefixes, !0), boxes: Vec::new() }
+    Left { stop: Stop { number, end: 0 }, tag: 0, count, words: guarded(&prefixes, !0), boxes: Vec::new() }
 }
 
 fn port_scan(given: &Given) -> Left {
@@ -47,8 +48,8 @@ fn port_scan(given: &Given) -> Left {
 
 /// The tag that the port told is where the source's is looked for first.
 fn source_flatten(given: &Given, guess: u64) -> Left {
-    let Told { number, tag, count, lines, boxes } = given.told(guess);
-    Left { number, tag, count, words: guarded(&lines, !0), boxes: boxes_of(&boxes) }
+    let Told { stop, tag, count, lines, boxes } = given.told(guess);
+    Left { stop, tag, count, words: guarded(&lines, !0), boxes: boxes_of(&boxes) }
 }
 
 fn port_flatten(given: &Given) -> Left {
@@ -72,11 +73,20 @@ fn boxes_of(boxes: &[PathBbox]) -> Vec<PathBox> {
 }
 
 fn left(told: Result<u64, Refusal>, words: Vec<u32>, boxes: Vec<PathBox>) -> Left {
-    let (number, tag, count) = match told {
-        Ok(count) => (0, 0, count),
-        Err(refusal) => (refusal.number, refusal.tag, refusal.lines.into()),
+    let (stop, tag, count) = match told {
+        Ok(count) => (Stop::NONE, 0, count),
+        Err(refusal) => (stop_of(refusal), refusal.tag, refusal.lines.into()),
     };
-    Left { number, tag, count, words, boxes }
+    Left { stop, tag, count, words, boxes }
+}
+
+fn stop_of(refusal: Refusal) -> Stop {
+    let end = match refusal.end {
+        None => 0,
+        Some(LineEnd::Start) => 1,
+        Some(LineEnd::End) => 2,
+    };
+    Stop { number: refusal.number, end }
 }
 
 /// What each leaves of a call.
@@ -111,7 +121,8 @@ fn first<T: PartialEq>(a: &[T], b: &[T]) -> Option<usize> {
 
 fn show(Both { call, source, port }: &Both) {
     for (who, left) in [("the published Rust", source), ("the port", port)] {
-        println!("  {call} by {who}: number {}, tag {}, count {}", left.number, left.tag, left.count);
+        let Stop { number, end } = left.stop;
+        println!("  {call} by {who}: number {number}, end {end}, tag {}, count {}", left.tag, left.count);
     }
     if let Some(i) = first(&source.words, &port.words) {
         println!("  word {i}: {:08x}, {:08x}", source.words[i], port.words[i]);
@@ -132,7 +143,9 @@ fn show_smallest(seed: u64, index: u64) {
 #[derive(Default)]
 struct Tally {
     /// By the source's number.
-    numbers: [u64; 8],
+    numbers: [u64; 9],
+    /// Of those with 5, at the start of a line and at its end.
+    ends: [u64; 2],
     /// Refused behind a line.
     late: u64,
     lines: u64,
@@ -145,15 +158,18 @@ impl Tally {
     fn take(&mut self, index: u64, Scene { given, mut names }: Scene) {
         let (scan, both) = (Both::scan(&given), Both::flatten(&given));
         let source = &both.source;
-        self.numbers[source.number as usize] += 1;
+        self.numbers[source.stop.number as usize] += 1;
+        if source.stop.end > 0 {
+            self.ends[source.stop.end as usize - 1] += 1;
+        }
         self.lines += source.count;
-        self.late += u64::from(source.number > 0 && source.count > 0);
+        self.late += u64::from(source.stop != Stop::NONE && source.count > 0);
         names.sort_unstable();
         names.dedup();
         for name in names {
             let [all, accepted] = self.names.entry(name).or_default();
             *all += 1;
-            *accepted += u64::from(source.number == 0);
+            *accepted += u64::from(source.stop == Stop::NONE);
         }
         if scan.differ() || both.differ() {
             self.differ.push(index);
@@ -161,7 +177,8 @@ impl Tally {
     }
 
     fn add(&mut self, other: Self) {
-        for (sum, n) in self.numbers.iter_mut().zip(other.numbers) {
+        let counts = self.numbers.iter_mut().chain(&mut self.ends);
+        for (sum, n) in counts.zip(other.numbers.into_iter().chain(other.ends)) {
             *sum += n;
         }
         self.late += other.late;
@@ -199,7 +216,8 @@ pub fn compare(seed: u64, scenes: u64, with_names: bool) -> bool {
         show_smallest(seed, *index);
     }
     let [accepted, refused @ ..] = sum.numbers;
-    println!("accepted {accepted}; refused with 1 to 7 {refused:?}, {} of them behind a line", sum.late);
+    println!("accepted {accepted}; refused with 1 to 8 {refused:?}, {} of them behind a line", sum.late);
+    println!("5 at the start of a line {}, at its end {}", sum.ends[0], sum.ends[1]);
     println!("{} lines", sum.lines);
     println!("{scenes} scenes of seed {seed}, {} differ", sum.differ.len());
     sum.differ.is_empty()

@@ -6,6 +6,7 @@ use published::ours::Ours;
 use crate::scenes::scene;
 use crate::sheet::Sheet;
 use crate::shrink::shrink;
+use crate::stops::Stop;
 use crate::whole::{Given, Main};
 
 /// A name, ours, and std's.
@@ -44,8 +45,8 @@ fn show_function((name, ours, stds): &Function) {
 /// What is told and stored with room enough: by the published Rust with our mathematics, or with std's.
 fn lines_of(main: Main, given: &Given) -> (u32, Vec<[u32; 6]>) {
     let mut sheet = Sheet::new(&given.lines);
-    let (number, _) = given.call(main, given.n_wg, &mut given.boxes.clone(), sheet.lines());
-    (number, sheet.stored_from(0))
+    let (stop, _) = given.call(main, given.n_wg, &mut given.boxes.clone(), sheet.lines());
+    (stop.number, sheet.stored_from(0))
 }
 
 /// Both accept it, and other lines are stored.
@@ -73,7 +74,10 @@ pub fn show_functions() {
 pub fn show_calls() {
     show_call("other lines than with std's mathematics", &lines_differ);
     show_call("accepted by the Rust without overflow checks", &address_wraps);
-    for number in 1..=7 {
-        show_call(&format!("refusal {number}"), &|given| given.told(0).number == number);
+    for number in 1..=8 {
+        let ends = if number == 5 { 1..=2 } else { 0..=0 };
+        for stop in ends.map(|end| Stop { number, end }) {
+            show_call(&format!("refusal {number}, end {}", stop.end), &|given| given.told(0).stop == stop);
+        }
     }
 }

@@ -9,7 +9,7 @@ use vello_encoding::LineSoup;
 
 use crate::shapes::{Point, SHAPES};
 use crate::sheet::{FILL, Sheet, hash};
-use crate::stops;
+use crate::stops::{self, Stop};
 use crate::values::Values;
 
 const ORIGIN: Point = [0.; 2];
@@ -64,22 +64,22 @@ impl Call {
         draw(self.kind, self.path, self.flags, self.number, self.transform, self.points, pen, lines);
     }
 
-    /// The refusal's number or 0, the count, the box unless refused, as floats, the hash of the lent words, the first
+    /// The refusal's number and end or 0, the count, the box unless refused, as floats, the hash of the lent words, the first
     /// line's points and the last one's.
     fn told(&self) -> Vec<u32> {
         let mut sheet = Sheet::new(&vec![FILL; self.lent as usize]);
         let mut pen = Pen::new(self.count as usize);
-        let number = stops::number_of(|| self.draw(&mut pen, sheet.lines()));
+        let stop = stops::stop_of(|| self.draw(&mut pen, sheet.lines()));
         let stored = sheet.stored_from(self.count as usize);
         let count = self.count + stored.len() as u32;
-        if number == 0 {
+        if stop == Stop::NONE {
             assert_eq!(pen.line_ix, count as usize);
         }
-        let bbox = if number == 0 { pen.bbox() } else { [0; 4] };
+        let bbox = if stop == Stop::NONE { pen.bbox() } else { [0; 4] };
         let bbox = bbox.map(|x| x as f32);
-        assert!(number > 0 || bbox.map(|x| x as i32) == pen.bbox());
+        assert!(stop != Stop::NONE || bbox.map(|x| x as i32) == pen.bbox());
         let points = |line: Option<&[u32; 6]>| line.map_or([0; 4], |w| [w[2], w[3], w[4], w[5]]);
-        let mut words = vec![number, count];
+        let mut words = vec![stop.word(), count];
         words.extend(bbox.map(f32::to_bits));
         words.push(hash(&sheet.words()));
         words.extend(points(stored.first()));

@@ -7,16 +7,17 @@ use vello_encoding::PathBbox;
 use crate::hex::{hex, runs};
 use crate::scenes::scene;
 use crate::sheet::{FILL, hash};
+use crate::stops::Stop;
 use crate::whole::{Given, Told, scan};
 
 /// The seed of the scenes, and how many are looked at.
 const SEED: u64 = 8;
 const SCENES: u64 = 20_000;
 
-/// Every name is in so many scenes of the list, and so many are accepted, and refused with each number.
+/// Every name is in so many scenes of the list, and so many are accepted, and refused with each number and each end.
 const OF_EACH_NAME: u64 = 5;
 const ACCEPTED: u64 = 160;
-const OF_EACH_NUMBER: u64 = 30;
+const OF_EACH_STOP: u64 = 30;
 
 /// The replaying program lends no more scene words, prefix words, boxes and line words.
 const MOST: [usize; 4] = [4096, 4096, 64, 9216];
@@ -45,7 +46,7 @@ fn print(given: &Given, told: &Told) {
     let bases = [given.n_wg, given.tag_base, given.data_base, given.transform_base, given.style_base];
     let lent = [given.scene.len(), given.prefixes.len(), given.boxes.len(), given.lines.len(), patches.len() / 2];
     let of_scan = [scan_number, scan_count as u32, hash(&scanned)];
-    let of_call = [told.number, told.tag as u32, told.count as u32, hash(&told.lines), hash(&box_words(&told.boxes))];
+    let of_call = [told.stop.word(), told.tag as u32, told.count as u32, hash(&told.lines), hash(&box_words(&told.boxes))];
     println!("{}", hex(&[&bases[..], &lent.map(|n| n as u32), &of_scan, &of_call].concat()));
     for part in [&given.scene, &patches, &box_words(&given.boxes)] {
         if !part.is_empty() {
@@ -55,27 +56,23 @@ fn print(given: &Given, told: &Told) {
 }
 
 /// Whether the count of any of these is still low. Counts them if so.
-fn is_wanted<'a>(counts: &mut BTreeMap<&'a str, u64>, names: &[&'a str], least: u64) -> bool {
+fn is_wanted<Name: Copy + Ord>(counts: &mut BTreeMap<Name, u64>, names: &[Name], least: u64) -> bool {
     let is_low = names.iter().any(|name| counts.get(name).is_none_or(|count| *count < least));
     if is_low {
-        names.iter().for_each(|name| *counts.entry(name).or_default() += 1);
+        names.iter().for_each(|name| *counts.entry(*name).or_default() += 1);
     }
     is_low
 }
 
-/// What is told, as a name.
-const NUMBERS: [&str; 8] = ["0", "1", "2", "3", "4", "5", "6", "7"];
-
 pub fn list() {
-    let (mut names, mut numbers) = (BTreeMap::new(), BTreeMap::new());
+    let (mut names, mut stops) = (BTreeMap::new(), BTreeMap::new());
     for index in 0..SCENES {
         let mut scene = scene(SEED, index);
         scene.given.lines.fill(FILL);
         let told = scene.given.told(0);
         let is_new = is_wanted(&mut names, &scene.names, OF_EACH_NAME);
-        let number = [NUMBERS[told.number as usize]];
-        let least = if told.number == 0 { ACCEPTED } else { OF_EACH_NUMBER };
-        if fits(&scene.given) && (is_wanted(&mut numbers, &number, least) || is_new) {
+        let least = if told.stop == Stop::NONE { ACCEPTED } else { OF_EACH_STOP };
+        if fits(&scene.given) && (is_wanted(&mut stops, &[told.stop.word()], least) || is_new) {
             print(&scene.given, &told);
         }
     }

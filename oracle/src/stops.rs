@@ -1,5 +1,5 @@
 //! What the port refuses, the published Rust panics at. The refusal's number is told by the line of the text where the
-//! panic is.
+//! panic is; which end of a line is no number, by the two points that the panic shows.
 
 use std::cell::Cell;
 use std::collections::HashMap;
@@ -7,7 +7,7 @@ use std::panic::{self, AssertUnwindSafe, PanicHookInfo};
 use std::process;
 
 /// What the line has in it, and the number.
-const CAUSES: [(&str, u32); 12] = [
+const CAUSES: [(&str, u32); 13] = [
     ("&scene[config.layout.path_tag_base", 1),
     ("&scene[config.layout.path_data_base", 1),
     ("pathtags[ix >> 2]", 2),
@@ -17,13 +17,43 @@ const CAUSES: [(&str, u32); 12] = [
     ("pathdata[ix as usize", 2),
     ("tag_monoids[ix >> 2]", 3),
     ("&mut path_bboxes[path_ix as usize]", 4),
+    ("assert!(!n.is_nan())", 8),
     ("assert!(", 5),
     ("lines[line_ix] =", 6),
     ("unreachable!()", 7),
 ];
 
+/// A refusal's number and, with 5, the line's end that is no number: 1 the start, 2 the end; else 0.
+#[derive(Clone, Copy, Debug, PartialEq, Eq)]
+pub struct Stop {
+    pub number: u32,
+    pub end: u32,
+}
+
+impl Stop {
+    /// The call came to its end.
+    pub const NONE: Self = Self { number: 0, end: 0 };
+
+    /// Both in one word: the number in the lowest byte, the end in the next.
+    pub fn word(self) -> u32 {
+        self.number | self.end << 8
+    }
+}
+
 thread_local! {
-    static NUMBER: Cell<u32> = const { Cell::new(0) };
+    static STOP: Cell<Stop> = const { Cell::new(Stop::NONE) };
+}
+
+/// Before the first point of a line that is refused, and before the second.
+const POINTS: [&str; 2] = ["wrote NaNs: p0: ", ", p1: "];
+
+/// Which point of the line has a NaN, the first one first, from what the source says as it panics.
+fn end_of(panic: &PanicHookInfo) -> u32 {
+    let shown = panic.payload_as_str().expect("the source panics with a text");
+    let points = shown.strip_prefix(POINTS[0]).and_then(|points| points.split_once(POINTS[1]));
+    let (start, end) = points.expect("it shows both points");
+    assert!(start.contains("NaN") || end.contains("NaN"));
+    if start.contains("NaN") { 1 } else { 2 }
 }
 
 /// A file and a line of it, counted from 1, and the number of a panic there.
@@ -45,7 +75,7 @@ fn places() -> Places {
 /// A panic anywhere else ends the program.
 fn note(places: &Places, panic: &PanicHookInfo) {
     match panic.location().and_then(|place| places.get(&(place.file(), place.line()))) {
-        Some(number) => NUMBER.set(*number),
+        Some(&number) => STOP.set(Stop { number, end: if number == 5 { end_of(panic) } else { 0 } }),
         None => {
             eprintln!("{panic}");
             process::exit(3);
@@ -59,10 +89,10 @@ pub fn watch() {
     panic::set_hook(Box::new(move |panic| note(&places, panic)));
 }
 
-/// 0, or the number of the refusal that the panic stands for. What the call was lent stays as the panic left it.
-pub fn number_of(call: impl FnOnce()) -> u32 {
+/// The refusal that the panic stands for, if there is one. What the call was lent stays as the panic left it.
+pub fn stop_of(call: impl FnOnce()) -> Stop {
     match panic::catch_unwind(AssertUnwindSafe(call)) {
-        Ok(()) => 0,
-        Err(_) => NUMBER.get(),
+        Ok(()) => Stop::NONE,
+        Err(_) => STOP.get(),
     }
 }

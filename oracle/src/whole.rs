@@ -6,7 +6,7 @@ use vello_encoding::{BumpAllocators, ConfigUniform, Layout, LineSoup, Monoid, Pa
 
 use crate::hex::{hex, runs};
 use crate::sheet::{Sheet, UNSTORED, stored};
-use crate::stops;
+use crate::stops::{self, Stop};
 
 /// What a call is given and lent. Prefixes and lines are words, of which some may be left over.
 #[derive(Clone, Debug, PartialEq, Eq)]
@@ -25,8 +25,7 @@ pub struct Given {
 
 #[derive(Debug, PartialEq, Eq)]
 pub struct Told {
-    /// 0, or the refusal's.
-    pub number: u32,
+    pub stop: Stop,
     /// The one in turn at a refusal, else 0.
     pub tag: u64,
     /// Of the lines stored.
@@ -64,14 +63,14 @@ impl Given {
         println!("  boxes {:?}", self.boxes);
     }
 
-    /// Runs the source with so many workgroups. The number told, and the count if it is 0.
-    pub fn call(&self, main: Main, n_wg: u32, boxes: &mut [PathBbox], lines: &mut [LineSoup]) -> (u32, u32) {
+    /// Runs the source with so many workgroups. Where it stopped, and the count if it did not.
+    pub fn call(&self, main: Main, n_wg: u32, boxes: &mut [PathBbox], lines: &mut [LineSoup]) -> (Stop, u32) {
         let config = self.config();
         let (prefixes, _) = self.prefixes.as_chunks::<4>();
         let prefixes: Vec<_> = prefixes.iter().map(prefix_of).collect();
         let mut bump = BumpAllocators::default();
-        let number = stops::number_of(|| main(n_wg, &config, &self.scene, &prefixes, boxes, &mut bump, lines));
-        (number, bump.lines)
+        let stop = stops::stop_of(|| main(n_wg, &config, &self.scene, &prefixes, boxes, &mut bump, lines));
+        (stop, bump.lines)
     }
 
     /// How many lines the source stores with so much room, whatever is lent.
@@ -94,7 +93,7 @@ impl Given {
         let mut boxes = self.boxes.clone();
         let mut sheet = Sheet::new(&self.lines);
         let mut stops =
-            |tags: u64| self.call(published::reach_tag_by_tag, tags as u32, &mut boxes, sheet.lines()).0 != 0;
+            |tags: u64| self.call(published::reach_tag_by_tag, tags as u32, &mut boxes, sheet.lines()).0 != Stop::NONE;
         // No tag is behind the scene's end.
         let (mut done, mut stopped) = (0, (u64::from(self.n_wg) * 256).min(4 * self.scene.len() as u64 + 1));
         let mut guesses = [guess, guess + 1].into_iter();
@@ -113,14 +112,14 @@ impl Given {
     pub fn told(&self, guess: u64) -> Told {
         let mut boxes = self.boxes.clone();
         let mut sheet = Sheet::new(&self.lines);
-        let (number, counted) = self.call(published::reach_main, self.n_wg, &mut boxes, sheet.lines());
+        let (stop, counted) = self.call(published::reach_main, self.n_wg, &mut boxes, sheet.lines());
         let count = stored(sheet.lines()) as u64;
-        if number == 0 {
+        if stop == Stop::NONE {
             assert_eq!(u64::from(counted), count);
         }
         // The bases are looked at before any tag.
-        let tag = if number > 1 { self.tags_done(guess) } else { 0 };
-        Told { number, tag, count, lines: sheet.words(), boxes }
+        let tag = if stop.number > 1 { self.tags_done(guess) } else { 0 };
+        Told { stop, tag, count, lines: sheet.words(), boxes }
     }
 }
 
@@ -179,7 +178,7 @@ mod tests {
         fn answer(&self) -> (u32, u64, u64) {
             stops::watch();
             let told = self.told(0);
-            (told.number, told.tag, told.count)
+            (told.stop.number, told.tag, told.count)
         }
     }
 
@@ -254,7 +253,7 @@ mod tests {
         // two sides, and at the end a cap or a join
         assert_eq!(stroke(0x8000_0000, 1., 0x06).answer(), (0, 0, 4));
         assert_eq!(stroke(0x8000_0000, 1., 0x05).answer(), (0, 0, 4));
-        assert_eq!(stroke(0x8000_0000, f32::NAN, 0x06).answer(), (5, 2, 0));
+        assert_eq!(stroke(0x8000_0000, f32::NAN, 0x06).answer(), (8, 2, 0));
         assert_eq!(stroke(0xb000_0000, 1., 0x05).answer(), (7, 2, 2));
     }
 

@@ -51,15 +51,15 @@ pub fn scan(scene: &[u32], tag_base: u32, prefixes: &mut [u32]) -> (u32, u64) {
     (number, out[0])
 }
 
-/// The refusal's number or 0, and the tag in turn and the count of lines.
+/// The refusal's number or 0, and the tag in turn, the count of lines, and the line's end that is not a number.
 pub fn flatten(
     layout: Layout,
     scene: &[u32],
     prefixes: &[u32],
     boxes: &mut [PathBox],
     lines: &mut [u32],
-) -> (u32, [u64; 2]) {
-    let mut out = [0; 2];
+) -> (u32, [u64; 3]) {
+    let mut out = [0; 3];
     // SAFETY: as in `scan`; `PathBox` is laid out as the header's `struct hinth_box`.
     let number = unsafe {
         hinth_flatten(

@@ -50,24 +50,45 @@ impl PathBox {
         PathBox { x0: i32::MAX, y0: i32::MAX, x1: i32::MIN, y1: i32::MIN, draw_flags: 0, trans_ix: 0 };
 }
 
-/// Why a call stopped: a number from 1 to 7, the index of the tag in turn, and how many whole lines are stored.
+/// An end of a line, as the line would be stored.
+#[derive(Clone, Copy, Debug, PartialEq, Eq)]
+pub enum LineEnd {
+    Start,
+    End,
+}
+
+impl LineEnd {
+    fn from_word(word: u64) -> Option<LineEnd> {
+        match word {
+            1 => Some(LineEnd::Start),
+            2 => Some(LineEnd::End),
+            _ => None,
+        }
+    }
+}
+
+/// Why a call stopped: a number from 1 to 8, with 5 the line's end that is not a number (the start if neither is one),
+/// the index of the tag in turn, and how many whole lines are stored.
 #[derive(Clone, Copy, Debug, PartialEq, Eq)]
 pub struct Refusal {
     pub number: u32,
+    pub end: Option<LineEnd>,
     pub tag: u64,
     pub lines: u32,
 }
 
 impl std::fmt::Display for Refusal {
     fn fmt(&self, f: &mut std::fmt::Formatter) -> std::fmt::Result {
-        let why = match self.number {
-            1 => "a base lies past the scene's end",
-            2 => "a read falls outside the scene",
-            3 => "a tag prefix is missing",
-            4 => "a path has no box",
-            5 => "a coordinate or a count is not a number",
-            6 => "no room for the next line",
-            _ => "the join is of no kind",
+        let why = match (self.number, self.end) {
+            (1, _) => "a base lies past the scene's end",
+            (2, _) => "a read falls outside the scene",
+            (3, _) => "a tag prefix is missing",
+            (4, _) => "a path has no box",
+            (5, Some(LineEnd::End)) => "the end of a line is not a number",
+            (5, _) => "the start of a line is not a number",
+            (6, _) => "no room for the next line",
+            (7, _) => "the join is of no kind",
+            _ => "the count of a curve's pieces is not a number",
         };
         write!(f, "refused {} at {}: {why}", self.number, self.tag)
     }
@@ -79,7 +100,7 @@ impl std::error::Error for Refusal {}
 pub fn scan(scene: &[u32], tag_base: u32, prefixes: &mut [u32]) -> Result<usize, Refusal> {
     let (number, count) = ffi::scan(scene, tag_base, prefixes);
     // no more than a quarter of the words lent
-    if number == 0 { Ok(count as usize) } else { Err(Refusal { number, tag: 0, lines: 0 }) }
+    if number == 0 { Ok(count as usize) } else { Err(Refusal { number, end: None, tag: 0, lines: 0 }) }
 }
 
 /// Stores the lines of the scene, six words each, widens the boxes of its paths, and returns how many lines. Words
@@ -91,8 +112,8 @@ pub fn flatten(
     boxes: &mut [PathBox],
     lines: &mut [u32],
 ) -> Result<u32, Refusal> {
-    let (number, [tag, count]) = ffi::flatten(layout, scene, prefixes, boxes, lines);
+    let (number, [tag, count, end]) = ffi::flatten(layout, scene, prefixes, boxes, lines);
     // the library counts lines in 32 bits
     let count = count as u32;
-    if number == 0 { Ok(count) } else { Err(Refusal { number, tag, lines: count }) }
+    if number == 0 { Ok(count) } else { Err(Refusal { number, end: LineEnd::from_word(end), tag, lines: count }) }
 }

@@ -1,6 +1,6 @@
 //! The call on a triangle, and on what is left of it without its last side.
 
-use hinthevoun::{Layout, PathBox, Refusal, flatten, scan};
+use hinthevoun::{Layout, LineEnd, PathBox, Refusal, flatten, scan};
 use std::collections::BTreeMap;
 
 const LAYOUT: Layout = Layout { n_wg: 1, tag_base: 0, data_base: 64, transform_base: 68, style_base: 74 };
@@ -80,7 +80,7 @@ fn the_even_odd_rule_is_a_draw_flag() {
 fn room_for_two_lines_is_too_little() {
     for line_words in 12..18 {
         let called = call(LAYOUT, &scene(CLOSED, [0, 0]), 1, line_words);
-        assert_eq!(called.answer, Err(Refusal { number: 6, tag: 4, lines: 2 }));
+        assert_eq!(called.answer, Err(Refusal { number: 6, end: None, tag: 4, lines: 2 }));
         assert_eq!(called.lines, words(&SIDES[..2], line_words));
         assert_eq!(called.boxes, [PathBox { x0: 0, y0: 0, x1: 3, y1: 6, draw_flags: 7, trans_ix: 7 }]);
     }
@@ -89,7 +89,7 @@ fn room_for_two_lines_is_too_little() {
 #[test]
 fn a_path_needs_a_box() {
     let called = call(LAYOUT, &scene(CLOSED, [0, 0]), 0, 18);
-    assert_eq!(called.answer, Err(Refusal { number: 4, tag: 5, lines: 3 }));
+    assert_eq!(called.answer, Err(Refusal { number: 4, end: None, tag: 5, lines: 3 }));
     assert_eq!(called.lines, words(&SIDES, 18));
 }
 
@@ -97,7 +97,7 @@ fn a_path_needs_a_box() {
 fn a_base_past_the_scene_is_refused() {
     for layout in [Layout { tag_base: 77, ..LAYOUT }, Layout { data_base: 77, ..LAYOUT }] {
         let called = call(layout, &scene(CLOSED, [0, 0]), 1, 18);
-        assert_eq!(called.answer, Err(Refusal { number: 1, tag: 0, lines: 0 }));
+        assert_eq!(called.answer, Err(Refusal { number: 1, end: None, tag: 0, lines: 0 }));
         assert_eq!(called.lines, words(&[], 18));
     }
 }
@@ -105,22 +105,51 @@ fn a_base_past_the_scene_is_refused() {
 #[test]
 fn a_transform_is_needed() {
     let called = call(LAYOUT, &scene([0x01014000, 0x00001005], [0, 0]), 1, 18);
-    assert_eq!(called.answer, Err(Refusal { number: 2, tag: 2, lines: 0 }));
+    assert_eq!(called.answer, Err(Refusal { number: 2, end: None, tag: 2, lines: 0 }));
 }
 
 #[test]
 fn prefixes_are_needed() {
     let mut lines = [MARK; 18];
     let answer = flatten(LAYOUT, &scene(CLOSED, [0, 0]), &[0; 3], &mut [PathBox::EMPTY], &mut lines);
-    assert_eq!(answer, Err(Refusal { number: 3, tag: 0, lines: 0 }));
+    assert_eq!(answer, Err(Refusal { number: 3, end: None, tag: 0, lines: 0 }));
     assert_eq!(lines, [MARK; 18]);
 }
 
 #[test]
 fn a_stroke_needs_a_width() {
     let called = call(LAYOUT, &scene(CLOSED, [0x80000000, f32::NAN.to_bits()]), 1, 18);
-    assert_eq!(called.answer, Err(Refusal { number: 5, tag: 2, lines: 0 }));
+    let refusal = called.answer.unwrap_err();
+    assert_eq!(refusal, Refusal { number: 8, end: None, tag: 2, lines: 0 });
+    assert_eq!(refusal.to_string(), "refused 8 at 2: the count of a curve's pieces is not a number");
     assert_eq!(called.lines, words(&[], 18));
+}
+
+/// Where the transform's numbers begin.
+const TRANSFORM: usize = LAYOUT.transform_base as usize;
+
+#[test]
+fn a_stroke_that_is_moved_by_no_number_has_a_bad_start() {
+    let mut scene = scene(CLOSED, [0x80000000, 1.0f32.to_bits()]);
+    scene[TRANSFORM + 4] = f32::NAN.to_bits();
+    let called = call(LAYOUT, &scene, 1, 18);
+    let refusal = called.answer.unwrap_err();
+    assert_eq!(refusal, Refusal { number: 5, end: Some(LineEnd::Start), tag: 2, lines: 0 });
+    assert_eq!(refusal.to_string(), "refused 5 at 2: the start of a line is not a number");
+    assert_eq!(called.lines, words(&[], 18));
+}
+
+/// The second line leads nowhere, so the join between them has a start and no end.
+#[test]
+fn a_stroke_to_no_point_has_a_bad_end() {
+    let (layout, mut scene) = (Layout { transform_base: 72, style_base: 78, ..LAYOUT }, vec![0; 80]);
+    scene[..2].copy_from_slice(&[0x09094020, 0x0000100d]);
+    let numbers = [0., 0., 3., 0., f32::NAN, 6., 0., 0., 1., 0., 0., 1., 0., 0.];
+    scene[64..78].copy_from_slice(&numbers.map(f32::to_bits));
+    scene[78..].copy_from_slice(&[0x80000000, 1.0f32.to_bits()]);
+    let refusal = call(layout, &scene, 1, 18).answer.unwrap_err();
+    assert_eq!(refusal, Refusal { number: 5, end: Some(LineEnd::End), tag: 2, lines: 2 });
+    assert_eq!(refusal.to_string(), "refused 5 at 2: the end of a line is not a number");
 }
 
 #[test]
@@ -161,7 +190,7 @@ fn the_scan_ends_with_the_scene() {
 fn the_scan_refuses_a_base_past_the_scene() {
     let mut prefixes = [MARK; 8];
     let refusal = scan(&scene(CLOSED, [0, 0]), 77, &mut prefixes).unwrap_err();
-    assert_eq!(refusal, Refusal { number: 1, tag: 0, lines: 0 });
+    assert_eq!(refusal, Refusal { number: 1, end: None, tag: 0, lines: 0 });
     assert_eq!(refusal.to_string(), "refused 1 at 0: a base lies past the scene's end");
     assert_eq!(prefixes, [MARK; 8]);
 }

@@ -1,4 +1,4 @@
--- A filled segment whose first or last point the transform makes infinite is refused by 5, or by 6 where the room ends before; unless its four points are one, which draw nothing. Assumes nothing.
+-- A filled segment whose first or last point the transform makes infinite is refused by 5 or 8, or by 6 where the room ends before; unless its four points are one, which draw nothing. Assumes nothing.
 use Prim.Native.Nat.{ℕ, zero, suc, _+_, _-_, _*_, _/_, _≤_}
 use mathlib.Core.Path.{_≡_, refl, sym, ap, _∙_, subst}
 use mathlib.Core.Logic.{_⊎_, inl, inr, ⊎-elim}
@@ -12,7 +12,9 @@ use lib.Ieee.{Float, isNan, le, eq, toUnsigned}
 use lib.Ieee.Bits.{is-true}
 use lib.Ieee.Scale.{finite}
 use Rattle.laws.specs.Binary32.{whole}
-use Rattle.refusals.specs.declared.Refusal.the-variants.{NotNumber, NoRoom}
+use Rattle.refusals.specs.declared.LineEnd.{LineEnd}
+use Rattle.refusals.specs.declared.LineEnd.the-variants.{Start, End}
+use Rattle.refusals.specs.declared.Refusal.the-variants.{NotNumber, NoRoom, NoCount}
 use Rattle.spiral.specs.Points.{identity-not-finite}
 use Rattle.spiral.specs.Util.{hasNan, applyOf}
 use Rattle.spiral.specs.declared.util.Vec2.{Vec2}
@@ -116,9 +118,10 @@ ends-spoilt a b es h c n = ⊎-elim (spoilt-start a b es h c) (λ s. s) (spoilt-
 
 -- ---- it is refused
 
--- by 5, or by 6 for want of room
+-- by 5, by 8 where a count is none, or by 6 for want of room
 pub data Refused (ws : List ℕ) : Drawn → Type 0 where
-  not-number : (n : ℕ) → Refused ws (Stopped NotNumber n)
+  not-number : (at : LineEnd) (n : ℕ) → Refused ws (Stopped (NotNumber at) n)
+  count-is-none : (n : ℕ) → Refused ws (Stopped NoCount n)
   no-room : (n : ℕ) → hasRoom ws n ≡ false → Refused ws (Stopped NoRoom n)
 
 same-room : (ws ws' : List ℕ) (n : ℕ) → length ws' ≡ length ws → hasRoom ws' n ≡ hasRoom ws n
@@ -126,28 +129,30 @@ unfolding hasRoom
 same-room ws ws' n e = ap (λ (k : ℕ). ltb n 4294967295 && ltb n (k / 6)) e
 
 as-before : (ws ws' : List ℕ) {d : Drawn} → length ws' ≡ length ws → Refused ws' d → Refused ws d
-as-before ws ws' e (not-number n) = not-number n
+as-before ws ws' e (not-number at n) = not-number at n
+as-before ws ws' e (count-is-none n) = count-is-none n
 as-before ws ws' e (no-room n h) = no-room n (sym (same-room ws ws' n e) ∙ h)
 
 module _ (path : ℕ) where
   stopped : (ws : List ℕ) (d : Drawn) (es : List Event) → isStopped d ≡ true → Refused ws d → Refused ws (drawAll path (sheet ws d) es .drawn)
   stopped ws d es h r = subst (λ (s : Sheet). Refused ws (s .drawn)) (absorbs path ws d es h) r
 
-  line-refused : (ws : List ℕ) (pen : Pen) (p q : Vec2) (es : List Event) (t u : Bool) → hasRoom ws (pen .count) ≡ u → (t ≡ true) ⊎ ((ws : List ℕ) (pen : Pen) → Refused ws (drawAll path (sheet ws (On pen)) es .drawn))
-      → Refused ws (drawAll path (stored t u path ws pen p q) es .drawn)
+  line-refused : (ws : List ℕ) (pen : Pen) (p q : Vec2) (es : List Event) (s t u : Bool) → hasRoom ws (pen .count) ≡ u → (s || t ≡ true) ⊎ ((ws : List ℕ) (pen : Pen) → Refused ws (drawAll path (sheet ws (On pen)) es .drawn))
+      → Refused ws (drawAll path (stored s t u path ws pen p q) es .drawn)
   unfolding stored isStopped
-  line-refused ws pen p q es true u h r = stopped ws (Stopped NotNumber (pen .count)) es refl (not-number (pen .count))
-  line-refused ws pen p q es false false h r = stopped ws (Stopped NoRoom (pen .count)) es refl (no-room (pen .count) h)
-  line-refused ws pen p q es false true h (inl e) = let z : _≡_ {A = ℕ} 0 1 = cc in absurd (omega arith)
-  line-refused ws pen p q es false true h (inr rest) =
+  line-refused ws pen p q es true t u h r = stopped ws (Stopped (NotNumber Start) (pen .count)) es refl (not-number Start (pen .count))
+  line-refused ws pen p q es false true u h r = stopped ws (Stopped (NotNumber End) (pen .count)) es refl (not-number End (pen .count))
+  line-refused ws pen p q es false false false h r = stopped ws (Stopped NoRoom (pen .count)) es refl (no-room (pen .count) h)
+  line-refused ws pen p q es false false true h (inl e) = let z : _≡_ {A = ℕ} 0 1 = cc in absurd (omega arith)
+  line-refused ws pen p q es false false true h (inr rest) =
       let ws' = sets ws (pen .count * 6) (recordOf path p q) in
       as-before ws ws' (length-sets ws (pen .count * 6) (recordOf path p q)) (rest ws' (record { count = pen .count + 1; bbox = boxWith (boxWith (pen .bbox) p) q }))
 
   spoilt-refused : {es : List Event} → Spoilt es → (ws : List ℕ) (pen : Pen) → Refused ws (drawAll path (sheet ws (On pen)) es .drawn)
   unfolding drawAll draw drawOn isStopped
-  spoilt-refused (no-count {es}) ws pen = stopped ws (Stopped NotNumber (pen .count)) es refl (not-number (pen .count))
-  spoilt-refused (no-number {p} {q} {es} h) ws pen = line-refused ws pen p q es (hasNan p || hasNan q) (hasRoom ws (pen .count)) refl (inl h)
-  spoilt-refused (later {p} {q} {es} s) ws pen = line-refused ws pen p q es (hasNan p || hasNan q) (hasRoom ws (pen .count)) refl (inr (spoilt-refused s))
+  spoilt-refused (no-count {es}) ws pen = stopped ws (Stopped NoCount (pen .count)) es refl (count-is-none (pen .count))
+  spoilt-refused (no-number {p} {q} {es} h) ws pen = line-refused ws pen p q es (hasNan p) (hasNan q) (hasRoom ws (pen .count)) refl (inl h)
+  spoilt-refused (later {p} {q} {es} s) ws pen = line-refused ws pen p q es (hasNan p) (hasNan q) (hasRoom ws (pen .count)) refl (inr (spoilt-refused s))
 
 -- ---- an infinite point
 

@@ -1,7 +1,7 @@
 -- What the proofs of the leaves cite: what a match found, the six words, one event at the pen. Assumes nothing.
 use Prim.Native.Nat.{ℕ, suc, _+_, _*_, _/_, _<_, _≤_}
 use mathlib.Core.Path.{_≡_, refl}
-use mathlib.Core.Bool.{Bool, true, false, _||_, _&&_}
+use mathlib.Core.Bool.{Bool, true, false, _&&_}
 use mathlib.Core.List.{List, [], _∷_}
 use native.Mathlib.Numerals.{add-one}
 use native.Mathlib.Omega.{arith}
@@ -12,7 +12,8 @@ use lib.Seq.{sets}
 use borrow.Author.Tests.{lt-ltb, le-ltb}
 use denote.Enum.Declared.{tagOf}
 use types.Run.{OneOf}
-use Rattle.refusals.specs.declared.Refusal.the-variants.{NotNumber, NoRoom, NoJoin}
+use Rattle.refusals.specs.declared.LineEnd.the-variants.{Start, End}
+use Rattle.refusals.specs.declared.Refusal.the-variants.{NotNumber, NoRoom, NoJoin, NoCount}
 use Rattle.spiral.specs.declared.util.Vec2.{Vec2}
 use Rattle.spiral.specs.Util.{hasNan}
 use Rattle.drawing.specs.Sheet.{boxWith, line, noCount, noJoin, recordOf, hasRoom, stored, drawOn, draw, drawAll, isStopped, Drew}
@@ -42,10 +43,6 @@ pub six-words : (ws : List ℕ) (at path : ℕ) (p q : Vec2) {a b c d : ℕ} →
 six-words ws at path p q e f g h = rw (e, f, g, h, next at 4, next at 3, next at 2, next at 1, add-one at)
 
 -- ---- one event
-or-right : (a b : Bool) → b ≡ true → a || b ≡ true
-or-right true b h = refl
-or-right false b h = h
-
 and-right : (a b : Bool) → b ≡ false → a && b ≡ false
 and-right true b h = h
 and-right false b h = refl
@@ -63,13 +60,13 @@ unfolding hasRoom
 room ws n h k = rw (lt-ltb n 4294967295 h, lt-ltb n (length ws / 6) k)
 
 module _ {path : ℕ} {ws : List ℕ} {ink : Drawn} {pen : Pen} {p q : Vec2} (on : ink ≡ On pen) where
-  pub nan-first : hasNan p ≡ true → Drew path ws ink (line p q ∷ []) ws (Stopped NotNumber (pen .count))
+  pub nan-first : hasNan p ≡ true → Drew path ws ink (line p q ∷ []) ws (Stopped (NotNumber Start) (pen .count))
   unfolding drawAll draw drawOn stored
   nan-first h = drew (rw (on, h))
 
-  pub nan-second : hasNan q ≡ true → Drew path ws ink (line p q ∷ []) ws (Stopped NotNumber (pen .count))
+  pub nan-second : hasNan p ≡ false → hasNan q ≡ true → Drew path ws ink (line p q ∷ []) ws (Stopped (NotNumber End) (pen .count))
   unfolding drawAll draw drawOn stored
-  nan-second h = drew (rw (on, or-right (hasNan p) (hasNan q) h))
+  nan-second h i = drew (rw (on, h, i))
 
   pub full : hasNan p ≡ false → hasNan q ≡ false → hasRoom ws (pen .count) ≡ false → Drew path ws ink (line p q ∷ []) ws (Stopped NoRoom (pen .count))
   unfolding drawAll draw drawOn stored
@@ -80,7 +77,7 @@ module _ {path : ℕ} {ws : List ℕ} {ink : Drawn} {pen : Pen} {p q : Vec2} (on
   goes-on h i k w e = drew (rw (on, h, i, k, w, e))
 
 module _ (path : ℕ) (ws : List ℕ) {ink : Drawn} {pen : Pen} (on : ink ≡ On pen) where
-  pub count-stops : Drew path ws ink (noCount ∷ []) ws (Stopped NotNumber (pen .count))
+  pub count-stops : Drew path ws ink (noCount ∷ []) ws (Stopped NoCount (pen .count))
   unfolding drawAll draw drawOn
   count-stops = drew (rw on)
 

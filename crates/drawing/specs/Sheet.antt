@@ -1,7 +1,7 @@
 -- What is drawn is a list of events, in the source's order; how events are stored is one fold over the sheet, `drawAll`. Definitions only.
 use Prim.Native.Nat.{ℕ, _+_, _*_, _/_}
 use mathlib.Core.Path.{_≡_}
-use mathlib.Core.Bool.{Bool, true, false, _||_, _&&_, cond}
+use mathlib.Core.Bool.{Bool, true, false, _&&_, cond}
 use mathlib.Core.List.{List, [], _∷_}
 use lib.ListN.{length}
 use lib.Seq.{sets}
@@ -10,9 +10,10 @@ use lib.IntN.{ℤ, pos, negsuc}
 use lib.Signed.{ltZ}
 use lib.Ieee.{Float, binary32, toBits, toSigned}
 use Rattle.maths.specs.Numbers.{floorOf, ceilOf}
-use Rattle.refusals.specs.Refusals.{numberOf}
+use Rattle.refusals.specs.Refusals.{numberOf, endOf}
 use Rattle.refusals.specs.declared.Refusal.{Refusal}
-use Rattle.refusals.specs.declared.Refusal.the-variants.{NotNumber, NoRoom, NoJoin}
+use Rattle.refusals.specs.declared.LineEnd.the-variants.{Start, End}
+use Rattle.refusals.specs.declared.Refusal.the-variants.{NotNumber, NoRoom, NoJoin, NoCount}
 use Rattle.spiral.specs.declared.util.Vec2.{Vec2}
 use Rattle.spiral.specs.Util.{hasNan, applyOf}
 use Rattle.drawing.specs.declared.line.IntBbox.{IntBbox}
@@ -70,16 +71,17 @@ recordOf path p q = path ∷ 0 ∷ toBits binary32 (p .x) ∷ toBits binary32 (p
 unfoldable pub hasRoom : List ℕ → ℕ → Bool
 hasRoom ws n = ltb n 4294967295 && ltb n (length ws / 6)
 
--- a line at the pen: whether it has a NaN, then whether it has room
-unfoldable pub stored : Bool → Bool → ℕ → List ℕ → Pen → Vec2 → Vec2 → Sheet
-stored true room path ws pen p q = sheet ws (Stopped NotNumber (pen .count))
-stored false false path ws pen p q = sheet ws (Stopped NoRoom (pen .count))
-stored false true path ws pen p q =
+-- a line at the pen: whether its start has a NaN, then whether its end has, then whether it has room
+unfoldable pub stored : Bool → Bool → Bool → ℕ → List ℕ → Pen → Vec2 → Vec2 → Sheet
+stored true end room path ws pen p q = sheet ws (Stopped (NotNumber Start) (pen .count))
+stored false true room path ws pen p q = sheet ws (Stopped (NotNumber End) (pen .count))
+stored false false false path ws pen p q = sheet ws (Stopped NoRoom (pen .count))
+stored false false true path ws pen p q =
     sheet (sets ws (pen .count * 6) (recordOf path p q)) (On (record { count = pen .count + 1; bbox = boxWith (boxWith (pen .bbox) p) q }))
 
 unfoldable pub drawOn : ℕ → List ℕ → Pen → Event → Sheet
-drawOn path ws pen (line p q) = stored (hasNan p || hasNan q) (hasRoom ws (pen .count)) path ws pen p q
-drawOn path ws pen noCount = sheet ws (Stopped NotNumber (pen .count))
+drawOn path ws pen (line p q) = stored (hasNan p) (hasNan q) (hasRoom ws (pen .count)) path ws pen p q
+drawOn path ws pen noCount = sheet ws (Stopped NoCount (pen .count))
 drawOn path ws pen noJoin = sheet ws (Stopped NoJoin (pen .count))
 
 -- one event; a stopped sheet takes no more
@@ -102,16 +104,17 @@ unfoldable pub isStopped : Drawn → Bool
 isStopped (On pen) = false
 isStopped (Stopped why n) = true
 
--- in numbers: 0 or the refusal's, the lines stored, the box of an answer that is no refusal, and the lent words
+-- in numbers: 0 or the refusal's, the end that is no number, the lines stored, the box of an answer that is no refusal, and the lent words
 pub record Told : Type 0 where
   pub number : ℕ
+  pub end : ℕ
   pub count : ℕ
   pub box : List IntBbox
   pub words : List ℕ
 
 unfoldable pub told : List ℕ → Drawn → Told
-told ws (On pen) = record { number = 0; count = pen .count; box = pen .bbox ∷ []; words = ws }
-told ws (Stopped why n) = record { number = numberOf why; count = n; box = []; words = ws }
+told ws (On pen) = record { number = 0; end = 0; count = pen .count; box = pen .bbox ∷ []; words = ws }
+told ws (Stopped why n) = record { number = numberOf why; end = endOf why; count = n; box = []; words = ws }
 
 abbrev pub toldOf : Sheet → Told
 toldOf s = told (s .words) (s .drawn)

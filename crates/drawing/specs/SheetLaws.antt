@@ -1,7 +1,7 @@
 -- How drawings follow one another. Assumes nothing.
 use Prim.Native.Nat.{ℕ, _*_}
 use mathlib.Core.Path.{_≡_, refl, ap, sym, _∙_}
-use mathlib.Core.Bool.{Bool, true, false, _||_, cond}
+use mathlib.Core.Bool.{Bool, true, false, cond}
 use mathlib.Core.List.{List, [], _∷_, _++_}
 use native.Mathlib.Omega.{arith}
 use lib.ListN.{length}
@@ -18,12 +18,12 @@ use Rattle.drawing.specs.declared.line.Drawn.{Drawn}
 use Rattle.drawing.specs.declared.line.Drawn.the-variants.{On, Stopped}
 
 -- ---- what is told determines the answer
-answer : List IntBbox → ℕ → ℕ → Drawn
-answer (b ∷ bs) number n = On (record { count = n; bbox = b })
-answer [] number n = Stopped (named number) n
+answer : List IntBbox → ℕ → ℕ → ℕ → Drawn
+answer (b ∷ bs) number end n = On (record { count = n; bbox = b })
+answer [] number end n = Stopped (named number end) n
 
 sheetIn : Told → Sheet
-sheetIn t = sheet (t .words) (answer (t .box) (t .number) (t .count))
+sheetIn t = sheet (t .words) (answer (t .box) (t .number) (t .end) (t .count))
 
 back : (ws : List ℕ) (d : Drawn) → sheetIn (told ws d) ≡ sheet ws d
 unfolding sheetIn answer told
@@ -94,15 +94,16 @@ pub halts : {path : ℕ} {ws₀ ws : List ℕ} {d₀ d : Drawn} {es₀ es : List
 halts {path} {ws = ws} {d = d} {es = es} l h = drew (absorbs path ws d es h ∙ l .is)
 
 -- ---- the lent words stay as many
-stored-length : (t u : Bool) (path : ℕ) (ws : List ℕ) (pen : Pen) (p q : Vec2) → length ((stored t u path ws pen p q) .words) ≡ length ws
+stored-length : (s t u : Bool) (path : ℕ) (ws : List ℕ) (pen : Pen) (p q : Vec2) → length ((stored s t u path ws pen p q) .words) ≡ length ws
 unfolding stored
-stored-length true u path ws pen p q = refl
-stored-length false false path ws pen p q = refl
-stored-length false true path ws pen p q = length-sets ws (pen .count * 6) (recordOf path p q)
+stored-length true t u path ws pen p q = refl
+stored-length false true u path ws pen p q = refl
+stored-length false false false path ws pen p q = refl
+stored-length false false true path ws pen p q = length-sets ws (pen .count * 6) (recordOf path p q)
 
 draw-length : (path : ℕ) (ws : List ℕ) (d : Drawn) (e : Event) → length ((draw path ws d e) .words) ≡ length ws
 unfolding draw drawOn
-draw-length path ws (On pen) (line p q) = stored-length (hasNan p || hasNan q) (hasRoom ws (pen .count)) path ws pen p q
+draw-length path ws (On pen) (line p q) = stored-length (hasNan p) (hasNan q) (hasRoom ws (pen .count)) path ws pen p q
 draw-length path ws (On pen) noCount = refl
 draw-length path ws (On pen) noJoin = refl
 draw-length path ws (Stopped why n) e = refl

@@ -1,14 +1,15 @@
 -- What a drawing leaves in the lent words: the lines stored before stand, the records of its first lines follow, as many as the count has grown by, and every word behind them is as it was. Assumes nothing.
 use Prim.Native.Nat.{ℕ, zero, suc, _+_, _*_, _/_, _<_, _≤_}
 use mathlib.Core.Path.{_≡_, refl, ap, sym, _∙_, subst}
-use mathlib.Core.Bool.{Bool, true, false, _||_, _&&_}
+use mathlib.Core.Bool.{Bool, true, false, _&&_}
 use mathlib.Core.List.{List, [], _∷_, _++_, append-nil, append-assoc}
 use native.Mathlib.Omega.{arith}
 use lib.Dec.{ltb}
 use borrow.Author.Tests.{ltb-true}
 use lib.ListN.{length, take, drop, length-append, take-append-drop}
 use lib.Seq.{sets, sets-eq, take-at, drop-at, drop-drop, length-take-le}
-use Rattle.refusals.specs.declared.Refusal.the-variants.{NotNumber, NoRoom, NoJoin}
+use Rattle.refusals.specs.declared.LineEnd.the-variants.{Start, End}
+use Rattle.refusals.specs.declared.Refusal.the-variants.{NotNumber, NoRoom, NoJoin, NoCount}
 use Rattle.spiral.specs.declared.util.Vec2.{Vec2}
 use Rattle.spiral.specs.Util.{hasNan}
 use Rattle.drawing.specs.Sheet.{Event, line, noCount, noJoin, boxWith, Sheet, sheet, recordOf, hasRoom, stored, drawOn, draw, drawAll, countOf, isStopped}
@@ -95,16 +96,17 @@ Leaves path es ws n s = Stands path es ws n (s .words) (countOf (s .drawn))
 stop-leaves : (path : ℕ) (e : Event) (es : List Event) (ws : List ℕ) (d : Drawn) → isStopped d ≡ true → Leaves path (e ∷ es) ws (countOf d) (drawAll path (sheet ws d) es)
 stop-leaves path e es ws d h = subst (Leaves path (e ∷ es) ws (countOf d)) (absorbs path ws d es h) (none path (e ∷ es) ws (countOf d))
 
-line-leaves : (path : ℕ) (p q : Vec2) (es : List Event) (ws : List ℕ) (pen : Pen) (t u : Bool) → hasRoom ws (pen .count) ≡ u → ((ws : List ℕ) (d : Drawn) → Leaves path es ws (countOf d) (drawAll path (sheet ws d) es)) → Leaves path (line p q ∷ es) ws (pen .count) (drawAll path (stored t u path ws pen p q) es)
+line-leaves : (path : ℕ) (p q : Vec2) (es : List Event) (ws : List ℕ) (pen : Pen) (s t u : Bool) → hasRoom ws (pen .count) ≡ u → ((ws : List ℕ) (d : Drawn) → Leaves path es ws (countOf d) (drawAll path (sheet ws d) es)) → Leaves path (line p q ∷ es) ws (pen .count) (drawAll path (stored s t u path ws pen p q) es)
 unfolding stored isStopped
-line-leaves path p q es ws pen true u h rest = stop-leaves path (line p q) es ws (Stopped NotNumber (pen .count)) refl
-line-leaves path p q es ws pen false false h rest = stop-leaves path (line p q) es ws (Stopped NoRoom (pen .count)) refl
-line-leaves path p q es ws pen false true h rest = one-more path p q es ws (pen .count) (fits-in ws (pen .count) h) (rest (sets ws (pen .count * 6) (recordOf path p q)) (On (record { count = pen .count + 1; bbox = boxWith (boxWith (pen .bbox) p) q })))
+line-leaves path p q es ws pen true t u h rest = stop-leaves path (line p q) es ws (Stopped (NotNumber Start) (pen .count)) refl
+line-leaves path p q es ws pen false true u h rest = stop-leaves path (line p q) es ws (Stopped (NotNumber End) (pen .count)) refl
+line-leaves path p q es ws pen false false false h rest = stop-leaves path (line p q) es ws (Stopped NoRoom (pen .count)) refl
+line-leaves path p q es ws pen false false true h rest = one-more path p q es ws (pen .count) (fits-in ws (pen .count) h) (rest (sets ws (pen .count * 6) (recordOf path p q)) (On (record { count = pen .count + 1; bbox = boxWith (boxWith (pen .bbox) p) q })))
 
 pub stands : (path : ℕ) (es : List Event) (ws : List ℕ) (d : Drawn) → Stands path es ws (countOf d) ((drawAll path (sheet ws d) es) .words) (countOf ((drawAll path (sheet ws d) es) .drawn))
 unfolding drawAll draw drawOn isStopped
 stands path [] ws d = none path [] ws (countOf d)
-stands path (line p q ∷ es) ws (On pen) = line-leaves path p q es ws pen (hasNan p || hasNan q) (hasRoom ws (pen .count)) refl (stands path es)
-stands path (noCount ∷ es) ws (On pen) = stop-leaves path noCount es ws (Stopped NotNumber (pen .count)) refl
+stands path (line p q ∷ es) ws (On pen) = line-leaves path p q es ws pen (hasNan p) (hasNan q) (hasRoom ws (pen .count)) refl (stands path es)
+stands path (noCount ∷ es) ws (On pen) = stop-leaves path noCount es ws (Stopped NoCount (pen .count)) refl
 stands path (noJoin ∷ es) ws (On pen) = stop-leaves path noJoin es ws (Stopped NoJoin (pen .count)) refl
 stands path (e ∷ es) ws (Stopped why n) = stop-leaves path e es ws (Stopped why n) refl

@@ -5,6 +5,7 @@ ghost use Prim.Native.Nat.{ℕ, _+_, _<_};
 ghost use lib.ListN.{length};
 ghost use lib.Seq.{sets};
 ghost use Rattle.drawing.specs.Sheet.{lowerOf, higherOf, emptyBox, boxWith, recordOf, line, noCount, noJoin, isStopped, lineThrough, Drew};
+use refusals::LineEnd;
 use refusals::Refusal;
 use spiral::util::Vec2;
 use spiral::util::apply;
@@ -80,7 +81,7 @@ fn put(lines: &mut [u32], at: usize, path: u32, p0: Vec2, p1: Vec2)
     lines[at + 5] = y1;
 }
 
-// Takes device points. A NaN is refused before room is looked for. The functions that draw with this
+// Takes device points. A NaN is refused before room is looked for, the start's before the end's. The functions that draw with this
 // one hand the answer on unseen: after a stop nothing more is stored.
 pub fn write_line(lines: &mut [u32], ink: Drawn, path: u32, p0: Vec2, p1: Vec2) -> Drawn
     ensures { λ r. ⌜ Drew path (now (lines .entry)) ink (line p0 p1 ∷ []) (now (lines .exit)) r ⌝ }
@@ -89,12 +90,11 @@ pub fn write_line(lines: &mut [u32], ink: Drawn, path: u32, p0: Vec2, p1: Vec2) 
         return ink;
     };
     let count = pen.count;
-    let not_number = Drawn::Stopped(Refusal::NotNumber, count);
     if p0.is_nan() {
-        return not_number;
+        return Drawn::Stopped(Refusal::NotNumber(LineEnd::Start), count);
     }
     if p1.is_nan() {
-        return not_number;
+        return Drawn::Stopped(Refusal::NotNumber(LineEnd::End), count);
     }
     // One more would make the count 2^32.
     if count >= 4294967295 {
@@ -150,7 +150,7 @@ pub fn no_count(ink: Drawn) -> Drawn
     let Drawn::On(pen) = ink else {
         return ink;
     };
-    Drawn::Stopped(Refusal::NotNumber, pen.count)
+    Drawn::Stopped(Refusal::NoCount, pen.count)
 }
 
 // Where the style names no join.

@@ -11,7 +11,7 @@ use Rattle.numbers.specs.Select.{before, maxOf, clampOf}
 use Rattle.numbers.specs.Whole.{wholeOf, floorOf, ceilOf}
 use Rattle.roots.specs.Root.{sqrtOf, twoThirdsOf, hypotOf}
 use Rattle.trig.specs.Trig as trig
-use Rattle.refusals.specs.Refusals.{numberOf, Read, found, refused}
+use Rattle.refusals.specs.Refusals.{numberOf, endOf, Read, found, refused}
 use Rattle.spiral.specs.Util.{newOf, addOf, subOf, mulOf, dotOf, lengthOf, lengthSquaredOf, mixOf, angleOf, hasNan, eqOf, identityOf, applyOf}
 use Rattle.spiral.specs.Euler.{fittedError, errorRatio, longChord, fromPointsDerivs, fromAngles}
 use Rattle.spiral.specs.declared.util.Vec2.{Vec2}
@@ -127,7 +127,7 @@ abbrev pub drawn : Outcome
 drawn = outcome (said 0 0 3) (record { x0 = pos 0; y0 = pos 0; x1 = pos 3; y1 = pos 6; «draw_flags» = 0; «trans_ix» = 0 } ∷ []) threeLines
 
 computed : (map (λ r. r .given) table ≡ map (λ r. r .measured) table) × (triangle 0x20 (freshBox ∷ []) 3 ≡ drawn)
-unfolding table flatten ofBits ofInt toBits toSigned toUnsigned round neg add sub mul div lt le eq isNan signOf signed absOf halfUnits halfFields halfOf before maxOf clampOf wholeOf floorOf ceilOf sqrtOf twoThirdsOf hypotOf trig.boundedOf trig.sinNear trig.cosNear trig.reducedOf trig.curveOf trig.waveOf trig.sinOf trig.cosOf trig.angleOf trig.atan2Of addOf subOf mulOf dotOf lengthOf lengthSquaredOf mixOf angleOf hasNan eqOf identityOf applyOf fittedError errorRatio longChord fromPointsDerivs fromAngles wordAt tagSums plus byteAt sumsBelow wordSums tagData prefixAt withPrefix tagIn tagOf sumsBefore prefixes filled scanOf i16Of i16Point pointWords pointAt lineCubic pointCount raised cubicOf reaches segmentOf floatsAt transformOf flagsOf lowerOf higherOf emptyBox boxWith hasRoom stored drawOn draw drawAll cubicPoint cubicDeriv cubicAt isShort firstTip tipAt paramsOf multiplierOf integrandOf robustOf nFracOf fitOf lineOf linesOf rangeOf rangeEnd tipOf isNear accepted walk isPoint sideEvents deviceSide eulerEvents fillEvents shapeEvents freshBox hasExtent markedOf mergedOf changedOf changedAt _>>=_ boxed headAt shapeAt eventsBy eventsAt drawnOf changeOf turnOf refusedAt stepFrom stepOf firstTurn startOf taken onward after answerOf numberOf toldOf callOf
+unfolding table flatten ofBits ofInt toBits toSigned toUnsigned round neg add sub mul div lt le eq isNan signOf signed absOf halfUnits halfFields halfOf before maxOf clampOf wholeOf floorOf ceilOf sqrtOf twoThirdsOf hypotOf trig.boundedOf trig.sinNear trig.cosNear trig.reducedOf trig.curveOf trig.waveOf trig.sinOf trig.cosOf trig.angleOf trig.atan2Of addOf subOf mulOf dotOf lengthOf lengthSquaredOf mixOf angleOf hasNan eqOf identityOf applyOf fittedError errorRatio longChord fromPointsDerivs fromAngles wordAt tagSums plus byteAt sumsBelow wordSums tagData prefixAt withPrefix tagIn tagOf sumsBefore prefixes filled scanOf i16Of i16Point pointWords pointAt lineCubic pointCount raised cubicOf reaches segmentOf floatsAt transformOf flagsOf lowerOf higherOf emptyBox boxWith hasRoom stored drawOn draw drawAll cubicPoint cubicDeriv cubicAt isShort firstTip tipAt paramsOf multiplierOf integrandOf robustOf nFracOf fitOf lineOf linesOf rangeOf rangeEnd tipOf isNear accepted walk isPoint sideEvents deviceSide eulerEvents fillEvents shapeEvents freshBox hasExtent markedOf mergedOf changedOf changedAt _>>=_ boxed headAt shapeAt eventsBy eventsAt drawnOf changeOf turnOf refusedAt stepFrom stepOf firstTurn startOf taken onward after answerOf numberOf endOf toldOf callOf
 computed = (refl, refl)
 
 -- ---- the two theorems

@@ -22,7 +22,7 @@ fn layout_of(head: &[u32; 1030]) -> Layout {
 }
 
 // The answer, as its number, and the tag and the count of lines in `told`.
-fn write_answer(number: u32, told: &[u64; 2]) {
+fn write_answer(number: u32, told: &[u64; 3]) {
     if number == 0 {
         output::write_count(b"lines ", told[1]);
     } else {
@@ -50,9 +50,10 @@ fn flatten_sheet(words: [u32; 1030], count: usize)
     let done = flatten_owned(layout, scene, &prefixes, fresh, n, &mut lines);
     let answer = done.answer;
     let boxes = done.boxes;
-    let mut told = [0u64; 2];
+    let mut told = [0u64; 3];
     let number = report(answer, &mut told);
     write_answer(number, &told);
+    output::say_why(number, told[2]);
     output::write_lines(&lines, told[1]);
     output::write_boxes(boxes, n);
 }

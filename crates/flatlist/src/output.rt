@@ -6,6 +6,20 @@ pub fn bad_input() {
     io::write_all(1, b"bad input\n");
 }
 
+// What the number alone does not say goes to standard error, as a sentence: which end of a line is not a
+// number, or that a count is not.
+pub fn say_why(number: u32, end: u64) {
+    if number == 8 {
+        io::write_all(2, b"the count of a curve's pieces is not a number\n");
+    }
+    if end == 1 {
+        io::write_all(2, b"the start of a line is not a number\n");
+    }
+    if end == 2 {
+        io::write_all(2, b"the end of a line is not a number\n");
+    }
+}
+
 pub fn end_line() {
     io::write_all(1, b"\n");
 }

@@ -4,7 +4,7 @@ use mathlib.Core.Bool.{Bool, true, false, _||_, cond}
 use mathlib.Core.List.{List, [], _∷_, _++_}
 use lib.Dec.{ltb}
 use lib.ListN.{length, take, drop}
-use Rattle.refusals.specs.Refusals.{numberOf}
+use Rattle.refusals.specs.Refusals.{numberOf, endOf}
 use Rattle.refusals.specs.declared.Refusal.the-variants.{BadBase}
 use Rattle.drawing.specs.Sheet.{emptyBox}
 use Rattle.flatten.specs.Boxes.{changedAt}
@@ -64,19 +64,20 @@ answerFor (stop.Refused why) tag count = Refused why tag count
 unfoldable pub answerOf : Turn → Answer
 answerOf t = answerFor (t .stop) (t .tag) (t .count)
 
--- what an answer says: its number, the tag in turn, and how many lines are stored
+-- what an answer says: its number, the tag in turn, and how many lines are stored; no line has an end that is no number
 abbrev pub said : ℕ → ℕ → ℕ → Told
-said number tag count = record { number = number; tag = tag; count = count }
+said number tag count = record { number = number; end = 0; tag = tag; count = count }
 
 unfoldable pub toldOf : Answer → Told
 toldOf (Lines count) = said 0 0 count
-toldOf (Refused why tag count) = said (numberOf why) tag count
+toldOf (Refused why tag count) = record { number = numberOf why; end = endOf why; tag = tag; count = count }
 
--- two words take the tag and the count, where there are two
+-- two words take the tag and the count, where there are two, and a third one the end
 unfoldable pub reportOf : Told → List ℕ → List ℕ
 reportOf told [] = []
 reportOf told (a ∷ []) = a ∷ []
-reportOf told (a ∷ b ∷ ws) = told .tag ∷ told .count ∷ ws
+reportOf told (a ∷ b ∷ []) = told .tag ∷ told .count ∷ []
+reportOf told (a ∷ b ∷ c ∷ ws) = told .tag ∷ told .count ∷ told .end ∷ ws
 
 -- ---- the call
 

@@ -6,7 +6,7 @@ use mathlib.Core.List.{List}
 use native.Mathlib.Omega.{arith}
 use lib.Dec.{ltb}
 use lib.ListN.{length}
-use Rattle.refusals.specs.Refusals.{numberOf}
+use Rattle.refusals.specs.Refusals.{numberOf, endOf}
 use Rattle.refusals.specs.declared.Refusal.the-variants.{BadBase}
 use Rattle.flatten.specs.Step.{stepOf}
 use Rattle.flatten.specs.Call.{firstTurn, startAt, startOf, State, taken, onward, next, after, answerOf, said, toldOf, outcome, outcomeOf, callOf}
@@ -56,7 +56,7 @@ module _ (layout : Layout) (scene prefixes : List ℕ) where
 -- a base past the scene's end is refused, and nothing is written
 pub bad-base : (layout : Layout) (scene prefixes : List ℕ) (ps : List PathBox) (ws : List ℕ) → ltb (length scene) (layout .«tag_base») || ltb (length scene) (layout .«data_base») ≡ true
     → callOf layout scene prefixes ps ws ≡ outcome (said 1 0 0) ps ws
-unfolding startOf firstTurn answerOf toldOf numberOf callOf after
+unfolding startOf firstTurn answerOf toldOf numberOf endOf callOf after
 bad-base layout scene prefixes ps ws past =
     let t = startOf layout (length scene) in
     let none : t ≡ firstTurn 0 (stop.Refused BadBase) = ap (λ (b : Bool). startAt b layout) past in

@@ -3,7 +3,7 @@ use Prim.Native.Nat.{ℕ, zero, suc}
 use mathlib.Core.Path.{_≡_, refl, _∙_, sym, ap}
 use mathlib.Core.List.{List}
 use Rattle.laws.specs.Only.{Only, determined}
-use Rattle.refusals.specs.Refusals.{numberOf}
+use Rattle.refusals.specs.Refusals.{numberOf, endOf}
 use Rattle.refusals.specs.Laws.{named, number-names, number-some}
 use Rattle.refusals.specs.declared.Refusal.{Refusal}
 use Rattle.flatten.specs.Boxes.{freshBox, changedOf, changedAt}
@@ -32,17 +32,17 @@ pub report-only : (a : Answer) (ws : List ℕ) → Only (λ (r : ℕ × List ℕ
 report-only a ws r s p q = λ i. ((p .0 ∙ sym (q .0)) i, (p .1 ∙ sym (q .1)) i)
 
 -- an answer, from what is told of it
-answer : ℕ → ℕ → ℕ → Answer
-answer zero tag count = Lines count
-answer (suc n) tag count = Refused (named (suc n)) tag count
+answer : ℕ → ℕ → ℕ → ℕ → Answer
+answer zero end tag count = Lines count
+answer (suc n) end tag count = Refused (named (suc n) end) tag count
 
 answerIn : Told → Answer
-answerIn t = answer (t .number) (t .tag) (t .count)
+answerIn t = answer (t .number) (t .end) (t .tag) (t .count)
 
-refused-back : (why : Refusal) (n tag count : ℕ) → numberOf why ≡ n → answer n tag count ≡ Refused why tag count
+refused-back : (why : Refusal) (n tag count : ℕ) → numberOf why ≡ n → answer n (endOf why) tag count ≡ Refused why tag count
 unfolding answer
 refused-back why zero tag count e = absurd (number-some why e)
-refused-back why (suc n) tag count e = ap (λ (w : Refusal). Refused w tag count) (ap named (sym e) ∙ number-names why)
+refused-back why (suc n) tag count e = ap (λ (w : Refusal). Refused w tag count) (ap (λ (m : ℕ). named m (endOf why)) (sym e) ∙ number-names why)
 
 back : (a : Answer) → answerIn (toldOf a) ≡ a
 unfolding answerIn answer toldOf

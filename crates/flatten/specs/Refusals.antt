@@ -100,15 +100,16 @@ NotBase : Drawn → Type 0
 NotBase (On pen) = Unit {0}
 NotBase (Stopped why n) = numberOf why ≡ 1 → ⊥
 
-stored-not-base : (t u : Bool) (path : ℕ) (ws : List ℕ) (pen : Pen) (p q : Vec2) → NotBase (stored t u path ws pen p q .drawn)
+stored-not-base : (s t u : Bool) (path : ℕ) (ws : List ℕ) (pen : Pen) (p q : Vec2) → NotBase (stored s t u path ws pen p q .drawn)
 unfolding NotBase stored numberOf
-stored-not-base true u path ws pen p q = λ e. omega arith
-stored-not-base false false path ws pen p q = λ e. omega arith
-stored-not-base false true path ws pen p q = tt
+stored-not-base true t u path ws pen p q = λ e. omega arith
+stored-not-base false true u path ws pen p q = λ e. omega arith
+stored-not-base false false false path ws pen p q = λ e. omega arith
+stored-not-base false false true path ws pen p q = tt
 
 draw-not-base : (path : ℕ) (ws : List ℕ) (d : Drawn) (e : Event) → NotBase d → NotBase (draw path ws d e .drawn)
 unfolding NotBase draw drawOn numberOf
-draw-not-base path ws (On pen) (line p q) h = stored-not-base (hasNan p || hasNan q) (hasRoom ws (pen .count)) path ws pen p q
+draw-not-base path ws (On pen) (line p q) h = stored-not-base (hasNan p) (hasNan q) (hasRoom ws (pen .count)) path ws pen p q
 draw-not-base path ws (On pen) noCount h = λ e. omega arith
 draw-not-base path ws (On pen) noJoin h = λ e. omega arith
 draw-not-base path ws (Stopped why n) e h = h

@@ -41,9 +41,10 @@ pub enum Answer {
     Refused(Refusal, u64, u32),
 }
 
-// An answer in numbers.
+// An answer in numbers; with 5, `end` is 1 where a line's start is no number and 2 where only its end is none.
 pub struct Told {
     pub number: u32,
+    pub end: u32,
     pub tag: u64,
     pub count: u32,
 }
@@ -55,12 +56,19 @@ impl Answer {
         match self {
             Answer::Lines(count) => Told {
                 number: 0,
+                end: 0,
                 tag: 0,
                 count,
             },
             Answer::Refused(why, tag, count) => {
                 let number = why.number();
-                Told { number, tag, count }
+                let end = why.end();
+                Told {
+                    number,
+                    end,
+                    tag,
+                    count,
+                }
             }
         }
     }
@@ -110,15 +118,21 @@ fn answered(t: Turn) -> Answer
     }
 }
 
-// For callers that take numbers: the tag and the count go to `out`, where it has room for both.
+// For callers that take numbers: the tag and the count go to `out`, where it has room for both, and the
+// end behind them where it has room for that too.
 pub fn report(answer: Answer, out: &mut [u64]) -> u32
     ensures { λ r. ⌜ (r ≡ toldOf answer .number) × (now (out .exit) ≡ reportOf (toldOf answer) (now (out .entry))) ⌝ }
 {
     let told = answer.told();
-    if 1 < out.len() {
-        out[0] = told.tag;
-        out[1] = told.count as u64;
+    if out.len() < 2 {
+        return told.number;
     }
+    out[0] = told.tag;
+    out[1] = told.count as u64;
+    if out.len() < 3 {
+        return told.number;
+    }
+    out[2] = told.end as u64;
     told.number
 }
 

@@ -1,5 +1,5 @@
 // A line of the list is a call, the words lent to it, its arguments, and what it answers and stores, as words of eight hex
-// digits. Writes each line whose answer is another here, and last how many lines there were and how many differ.
+// digits; a refusal's number is in the lowest byte of its word, the line's end in the next. Writes each line whose answer is another here, and last how many lines there were and how many differ.
 use crate::draw;
 use drawing::line::Drawn;
 use drawing::line::IntBbox;
@@ -22,14 +22,15 @@ fn is_box(line: &[u8; 351], b: IntBbox) -> bool {
         & (b.y1 == whole(line, 29))
 }
 
-fn is_stop(line: &[u8; 351], number: u32, count: u32) -> bool {
-    (number == word(line, 24)) & (count == word(line, 25))
+fn is_stop(line: &[u8; 351], number: u32, end: u32, count: u32) -> bool {
+    let told = word(line, 24);
+    (number == told % 256) & (end == told / 256) & (count == word(line, 25))
 }
 
 fn is_told(line: &[u8; 351], r: Drawn) -> bool {
     match r {
-        Drawn::On(pen) => is_stop(line, 0, pen.count) & is_box(line, pen.bbox),
-        Drawn::Stopped(why, count) => is_stop(line, why.number(), count),
+        Drawn::On(pen) => is_stop(line, 0, 0, pen.count) & is_box(line, pen.bbox),
+        Drawn::Stopped(why, count) => is_stop(line, why.number(), why.end(), count),
     }
 }
 

@@ -47,7 +47,11 @@ fn same_scan(head: Head, scene: &[u32], prefixes: &mut [u32]) -> bool {
 }
 
 fn same_answer(told: CallTold, r: Told) -> bool {
-    (told.number == r.number) & (told.tag as u64 == r.tag) & (told.count == r.count)
+    let stop = told.stop;
+    (stop % 256 == r.number)
+        & (stop / 256 == r.end)
+        & (told.tag as u64 == r.tag)
+        & (told.count == r.count)
 }
 
 // By the hashes, no word but those told has changed.

@@ -27,8 +27,9 @@ struct ScanTold {
     prefixes: u32,
 }
 
+// The refusal's number is in the lowest byte of `stop`, the line's end in the next.
 struct CallTold {
-    number: u32,
+    stop: u32,
     tag: u32,
     count: u32,
     lines: u32,
@@ -55,7 +56,7 @@ fn scan_told(line: &[u8; 162]) -> ScanTold {
 
 fn call_told(line: &[u8; 162]) -> CallTold {
     CallTold {
-        number: word(line, 13),
+        stop: word(line, 13),
         tag: word(line, 14),
         count: word(line, 15),
         lines: word(line, 16),

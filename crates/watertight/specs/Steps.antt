@@ -2,14 +2,15 @@
 use Prim.Native.Nat.{ℕ, _+_, _-_, _*_, _%_, _^_}
 use mathlib.Core.Path.{_≡_, refl, sym, ap, _∙_, subst}
 use mathlib.Core.Logic.{_⊎_, inl, inr}
-use mathlib.Core.Bool.{Bool, true, false, _||_}
+use mathlib.Core.Bool.{Bool, true, false}
 use mathlib.Core.List.{List, [], _∷_}
 use native.Mathlib.Omega.{arith}
 use lib.ListN.{length}
 use lib.Seq.{sets}
 use Rattle.refusals.specs.Refusals.{Read, found, refused}
 use Rattle.refusals.specs.declared.Refusal.{Refusal}
-use Rattle.refusals.specs.declared.Refusal.the-variants.{NotNumber, NoRoom, NoJoin}
+use Rattle.refusals.specs.declared.LineEnd.the-variants.{Start, End}
+use Rattle.refusals.specs.declared.Refusal.the-variants.{NotNumber, NoRoom, NoJoin, NoCount}
 use Rattle.spiral.specs.declared.util.Vec2.{Vec2}
 use Rattle.spiral.specs.Util.{hasNan}
 use Rattle.drawing.specs.Sheet.{Event, line, noCount, noJoin, Sheet, sheet, recordOf, hasRoom, boxWith, stored, drawOn, draw, drawAll, isStopped, countOf}
@@ -37,13 +38,14 @@ stopped path es ws d pen h e =
     let z : _≡_ {A = Bool} false true = sym (ap isStopped k) ∙ h in
     let y : _≡_ {A = ℕ} 0 1 = cc in omega arith
 
-line-whole : (path : ℕ) (p q : Vec2) (es : List Event) (ws : List ℕ) (pen pen' : Pen) (t u : Bool)
+line-whole : (path : ℕ) (p q : Vec2) (es : List Event) (ws : List ℕ) (pen pen' : Pen) (s t u : Bool)
     → ((ws : List ℕ) (pen : Pen) → drawAll path (sheet ws (drawn.On pen)) es .drawn ≡ drawn.On pen' → Whole es pen pen')
-    → drawAll path (stored t u path ws pen p q) es .drawn ≡ drawn.On pen' → Whole (line p q ∷ es) pen pen'
+    → drawAll path (stored s t u path ws pen p q) es .drawn ≡ drawn.On pen' → Whole (line p q ∷ es) pen pen'
 unfolding stored isStopped AllLines
-line-whole path p q es ws pen pen' true u rest e = absurd (stopped path es ws (drawn.Stopped NotNumber (pen .count)) pen' refl e)
-line-whole path p q es ws pen pen' false false rest e = absurd (stopped path es ws (drawn.Stopped NoRoom (pen .count)) pen' refl e)
-line-whole path p q es ws pen pen' false true rest e =
+line-whole path p q es ws pen pen' true t u rest e = absurd (stopped path es ws (drawn.Stopped (NotNumber Start) (pen .count)) pen' refl e)
+line-whole path p q es ws pen pen' false true u rest e = absurd (stopped path es ws (drawn.Stopped (NotNumber End) (pen .count)) pen' refl e)
+line-whole path p q es ws pen pen' false false false rest e = absurd (stopped path es ws (drawn.Stopped NoRoom (pen .count)) pen' refl e)
+line-whole path p q es ws pen pen' false false true rest e =
     let w = rest (sets ws (pen .count * 6) (recordOf path p q)) (record { count = pen .count + 1; bbox = boxWith (boxWith (pen .bbox) p) q }) e in
     (w .0, omega (arith, w .1))
 
@@ -51,8 +53,8 @@ line-whole path p q es ws pen pen' false true rest e =
 whole : (path : ℕ) (es : List Event) (ws : List ℕ) (pen pen' : Pen) → drawAll path (sheet ws (drawn.On pen)) es .drawn ≡ drawn.On pen' → Whole es pen pen'
 unfolding drawAll draw drawOn AllLines isStopped
 whole path [] ws pen pen' e = (tt, let k : pen ≡ pen' = cc in omega (arith, ap (λ (p : Pen). p .count) k))
-whole path (line p q ∷ es) ws pen pen' e = line-whole path p q es ws pen pen' (hasNan p || hasNan q) (hasRoom ws (pen .count)) (λ ws pen. whole path es ws pen pen') e
-whole path (noCount ∷ es) ws pen pen' e = absurd (stopped path es ws (drawn.Stopped NotNumber (pen .count)) pen' refl e)
+whole path (line p q ∷ es) ws pen pen' e = line-whole path p q es ws pen pen' (hasNan p) (hasNan q) (hasRoom ws (pen .count)) (λ ws pen. whole path es ws pen pen') e
+whole path (noCount ∷ es) ws pen pen' e = absurd (stopped path es ws (drawn.Stopped NoCount (pen .count)) pen' refl e)
 whole path (noJoin ∷ es) ws pen pen' e = absurd (stopped path es ws (drawn.Stopped NoJoin (pen .count)) pen' refl e)
 
 -- ---- one tag

@@ -28,7 +28,7 @@ returns-2 c = nan-first (c .before .before .before .ink .given .1) (sym (c .befo
 returns-3 : tie.Need-returns-3
 returns-3 c =
     let k = c .before .before .before .before .before in
-    nan-second (k .ink .given .1) (sym (c .before .is-nan2 .ensures) ∙ c .if2 .taken)
+    nan-second (k .ink .given .1) (first (c .before .before)) (sym (c .before .is-nan2 .ensures) ∙ c .if2 .taken)
 
 returns-4 : tie.Need-returns-4
 returns-4 c =

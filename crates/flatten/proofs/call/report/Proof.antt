@@ -11,29 +11,55 @@ use Rattle.flatten.specs.declared.call.Told.{Told}
 use Rattle.flatten.proofs.call.report.Statement.{statement}
 use Rattle.flatten.proofs.call.report.Tie as tie
 
-written : (ws : List ℕ) (t : Told) → 1 < length ws → set (set ws 0 (t .tag)) 1 (t .count) ≡ reportOf t ws
-unfolding reportOf
-written [] t h = absurd (omega arith)
-written (a ∷ []) t h = absurd (omega arith)
-written (a ∷ b ∷ ws) t h = refl
-
-untouched : (ws : List ℕ) (t : Told) → length ws ≤ 1 → ws ≡ reportOf t ws
+-- what stands in the lent words, by how many there are
+untouched : (ws : List ℕ) (t : Told) → length ws < 2 → ws ≡ reportOf t ws
 unfolding reportOf
 untouched [] t h = refl
 untouched (a ∷ []) t h = refl
 untouched (a ∷ b ∷ ws) t h = absurd (omega arith)
 
+two-words : (ws : List ℕ) (t : Told) → 2 ≤ length ws → length (set (set ws 0 (t .tag)) 1 (t .count)) < 3 → set (set ws 0 (t .tag)) 1 (t .count) ≡ reportOf t ws
+unfolding reportOf
+two-words [] t h k = absurd (omega arith)
+two-words (a ∷ []) t h k = absurd (omega arith)
+two-words (a ∷ b ∷ []) t h k = refl
+two-words (a ∷ b ∷ c ∷ ws) t h k = absurd (omega arith)
+
+three-words : (ws : List ℕ) (t : Told) → 3 ≤ length (set (set ws 0 (t .tag)) 1 (t .count)) → set (set (set ws 0 (t .tag)) 1 (t .count)) 2 (t .end) ≡ reportOf t ws
+unfolding reportOf
+three-words [] t h = absurd (omega arith)
+three-words (a ∷ []) t h = absurd (omega arith)
+three-words (a ∷ b ∷ []) t h = absurd (omega arith)
+three-words (a ∷ b ∷ c ∷ ws) t h = refl
+
+-- what was told is what the definition tells
+said : (ws us : List ℕ) (t u : Told) → t ≡ u → us ≡ reportOf t ws → (t .number ≡ u .number) × (us ≡ reportOf u ws)
+said ws us t u e h = (ap (λ (x : Told). x .number) e, h ∙ ap (λ (x : Told). reportOf x ws) e)
+
 returns : tie.Need-returns
 returns c =
-    let k = c .before .before in
-    let e = k .told .ensures in
-    (ap (λ (t : Told). t .number) e, written (now (k .before .before .args .out)) (k .told .result) (c .before .if1 .taken) ∙ ap (λ (t : Told). reportOf t (now (k .before .before .args .out))) e)
+    let t = c .before .told in
+    let ws = now (c .before .before .before .args .out) in
+    said ws ws (t .result) _ (t .ensures) (untouched ws (t .result) (c .if1 .taken))
 
 returns-2 : tie.Need-returns-2
 returns-2 c =
-    let k = c .before in
-    let e = k .told .ensures in
-    (ap (λ (t : Told). t .number) e, untouched (now (k .before .before .args .out)) (k .told .result) (c .if1 .left) ∙ ap (λ (t : Told). reportOf t (now (k .before .before .args .out))) e)
+    let k = c .before .before in
+    let t = k .before .told in
+    let ws = now (k .before .before .before .args .out) in
+    said ws _ (t .result) _ (t .ensures) (two-words ws (t .result) (k .if1 .left) (c .if2 .taken))
+
+returns-3 : tie.Need-returns-3
+returns-3 c =
+    let k = c .before .before .before in
+    let t = k .before .told in
+    let ws = now (k .before .before .before .args .out) in
+    said ws _ (t .result) _ (t .ensures) (three-words ws (t .result) (c .before .if2 .left))
 
 pub report-spec : {M : Type 1} → statement M
-report-spec = tie.close (tie.spec (λ c κs. tt) (λ c. search needs) (λ c. search needs) (λ c. search needs) (λ c. search needs) returns returns-2)
+report-spec =
+    tie.close
+    (tie.spec
+    (λ c κs. search needs) returns
+    (λ c. search needs) (λ c. search needs) (λ c. search needs) (λ c. search needs) returns-2
+    (λ c. search needs) (λ c. search needs) (λ c. search needs) returns-3)

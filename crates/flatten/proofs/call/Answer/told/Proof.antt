@@ -10,7 +10,7 @@ returns c = rw (c .before .self .given .1)
 
 returns-2 : tie.Need-returns-2
 unfolding toldOf
-returns-2 c = rw (c .before .before .self2 .given .1, c .number .ensures)
+returns-2 c = rw (c .before .before .before .self2 .given .1, c .before .number .ensures, c .end .ensures)
 
 pub told-spec : {M : Type 1} → statement M
-told-spec = tie.close (tie.spec (λ c. search needs) (λ c. search needs) (λ c κs. tt) returns returns-2)
+told-spec = tie.close (tie.spec (λ c. search needs) (λ c. search needs) (λ c κs. tt) (λ c κs. tt) returns returns-2)

@@ -1,12 +1,15 @@
 """Drawing: the marks of a picture, as SVG."""
 from collections import Counter
 from itertools import accumulate, groupby, repeat
+from typing import Callable, Iterable, List, NamedTuple, Optional, Sequence
 from xml.sax.saxutils import escape
 
-from .counting import boxes_shown, chains_of, shared_and_alone
-from .geometry import Frame, heads_along
-from .lists import count, finite_points, place_of, places_of
-from .saying import MOST_OUTLINES, shown
+from ..columns import Lines, finite_points, place_of, places_of
+from ..saying import count
+from . import ink
+from .counting import Found, Outline, boxes_shown, chains_of, shared_and_alone
+from .geometry import Frame, Place, heads_along
+from .telling import MOST_OUTLINES, shown
 
 # Okabe and Ito's colours, which people with colour blindness can tell apart, but for the yellow, which white paper
 # hides, and the vermilion, which is too near to the red of the rings.
@@ -20,40 +23,52 @@ MOST_RINGS = 10_000
 # Lines in one element: viewers take very long for one with many more, and for very many elements.
 MOST_LINES = 1000
 
+Colours = Callable[[int], str]  # of a path
 
-def digits(x):
+
+class Wishes(NamedTuple):
+    """What is asked of a picture: how many millimetres a unit has, if that is known, whether arrows are drawn, and
+    whether what a fill inks is shaded."""
+
+    millimetres: Optional[float] = None
+    arrows: bool = False
+    ink: bool = False
+
+
+def digits(x: float) -> str:
     """Six digits, so at most 0.0005 off: no drawing is longer than 800 of the picture's units."""
     return f"{x:.6g}"
 
 
-def pair(place):
+def pair(place: Place) -> str:
     return "%.6g %.6g" % place
 
 
-def text(x, y, words, fill=INK, weight="normal", size=14):
+def text(x: float, y: float, words: str, fill: str = INK, weight: str = "normal", size: int = 14) -> str:
     return (f'<text x="{digits(x)}" y="{digits(y)}" font-family="sans-serif" font-size="{size}" '
             f'font-weight="{weight}" fill="{fill}">{escape(words)}</text>')
 
 
-def way(*places, end=""):
+def way(*places: Place, end: str = "") -> str:
     """A path through the places."""
     return f'<path d="M{" ".join(map(pair, places))}{end}"/>'
 
 
-def rectangle(corner, far_corner):
+def rectangle(corner: Place, far_corner: Place) -> str:
     """A path, since SVG shows no rectangle that is flat."""
     (x0, y0), (x1, y1) = corner, far_corner
     return way((x0, y0), (x1, y0), (x1, y1), (x0, y1), end="z")
 
 
-def inked(marks, colour, width, more=""):
+def inked(marks: Iterable[str], colour: str, width: float, more: str = "") -> str:
     """Ends are round, so a line whose ends meet is seen as a dot."""
     return (f'<g stroke="{colour}" stroke-width="{width}" fill="none" stroke-linecap="round" stroke-linejoin="round"'
             f'{more}>{"".join(marks)}</g>')
 
 
-def frame_of(lists):
-    xs, ys = [], []
+def frame_of(lists: List[Found]) -> Frame:
+    xs: List[float] = []
+    ys: List[float] = []
     for found in lists:
         lines = found.lines.drawable()
         corners = [box[i:i + 2] for box in boxes_shown(found).values() for i in (0, 2)]
@@ -62,18 +77,18 @@ def frame_of(lists):
     return Frame(xs, ys)
 
 
-def places_along(lines, chain, frame):
+def places_along(lines: Lines, chain: slice, frame: Frame) -> List[Place]:
     return frame.all_at([lines.starts[chain.start], *lines.ends[chain]])
 
 
-def packed(parts, sizes):
+def packed(parts: Iterable[str], sizes: Iterable[int]) -> List[str]:
     """Path elements of the parts, each with those of about MOST_LINES together."""
     shelves = [total // MOST_LINES for total in accumulate(sizes)]
     together = groupby(zip(shelves, parts), key=lambda placed: placed[0])
     return [f'<path d="{"".join(part for _, part in group)}"/>\n' for _, group in together]
 
 
-def chains_drawn(lines, frame):
+def chains_drawn(lines: Lines, frame: Frame) -> List[str]:
     """Of each chain the start, and every end."""
     chains = chains_of(lines, MOST_LINES)
     starts = frame.all_at([lines.starts[chain.start] for chain in chains])
@@ -82,7 +97,7 @@ def chains_drawn(lines, frame):
     return packed(parts, [part.count(" ") // 2 for part in parts])
 
 
-def head_drawn(place, forth, size):
+def head_drawn(place: Place, forth: Place, size: float) -> str:
     """A triangle around the place, its tip ahead."""
     (x, y), (u, v), half = place, forth, size / 2
     back = x - half * u, y - half * v
@@ -91,7 +106,7 @@ def head_drawn(place, forth, size):
                (back[0] + side * v, back[1] - side * u), end="z")
 
 
-def heads_drawn(lines, frame, colour, width):
+def heads_drawn(lines: Lines, frame: Frame, colour: str, width: float) -> str:
     """Arrow heads, larger on wider lines."""
     chains = chains_of(lines, MOST_LINES)
     heads = [head_drawn(*head) for chain in chains
@@ -99,19 +114,19 @@ def heads_drawn(lines, frame, colour, width):
     return f'<g fill="{colour}" class="heads">{"".join(heads)}</g>'
 
 
-def lines_drawn(lines, frame, colour, width, title, arrows):
+def lines_drawn(lines: Lines, frame: Frame, colour: str, width: float, title: str, arrows: bool) -> str:
     lines = lines.drawable()
     drawn = inked([f"<title>{title}</title>\n", *chains_drawn(lines, frame)], colour, width)
     return drawn + (heads_drawn(lines, frame, colour, width) if arrows else "")
 
 
-def box_drawn(box, frame, colour, side):
+def box_drawn(box: Sequence[int], frame: Frame, colour: str, side: int) -> str:
     """The second list's dashes fill the gaps of the first's."""
     dashes = f' stroke-dasharray="4 8" stroke-dashoffset="{6 * side}" class="box"'
     return inked([rectangle(frame.at(box[:2]), frame.at(box[2:]))], colour, 1, dashes)
 
 
-def boxes_drawn(found, frame, colour_of, side, taken):
+def boxes_drawn(found: Found, frame: Frame, colour_of: Colours, side: int, taken: "Counter[Place]") -> List[str]:
     """`taken` counts the labels at a corner, so that none lies on another. Many boxes have none: they would hide all."""
     boxes, drawn = boxes_shown(found), []
     for path, box in boxes.items():
@@ -123,7 +138,7 @@ def boxes_drawn(found, frame, colour_of, side, taken):
     return drawn
 
 
-def ring(outline, point, frame, radius):
+def ring(outline: Outline, point: int, frame: Frame, radius: int) -> str:
     place, (starts, ends) = place_of(point), outline.open[point]
     cx, cy = map(digits, frame.at(place))
     where = ", ".join(map(shown, place))
@@ -131,7 +146,7 @@ def ring(outline, point, frame, radius):
     return f'<circle cx="{cx}" cy="{cy}" r="{radius}"><title>{title}</title></circle>\n'
 
 
-def rings_drawn(found, frame, radius):
+def rings_drawn(found: Found, frame: Frame, radius: int) -> str:
     finite = [(outline, finite_points(outline.open)) for outline in found.outlines]
     if sum(len(points) for _, points in finite) > MOST_RINGS:
         dots = [f"M{pair(place)}h0" for _, points in finite for place in frame.all_at(points)]
@@ -140,21 +155,44 @@ def rings_drawn(found, frame, radius):
     return inked(rings, RED, 2, ' pointer-events="all"')
 
 
-def path_colour(path):
+def shade(outline: Outline, rule: str, frame: Frame, colour: str) -> str:
+    """What a fill of the path inks. It is one element, since an opening is one only beside its outline."""
+    loops = ink.loops_of(ink.chains_of(outline))
+    parts = [f'M{" ".join(map(pair, frame.all_at(loop)))}z' for loop in loops]
+    return (f'<g fill="{colour}" fill-opacity="0.3" class="ink"><path fill-rule="{rule.replace("-", "")}" '
+            f'd="{"".join(parts)}"><title>path {outline.path}, ink by the {rule} rule</title></path></g>\n')
+
+
+def ink_drawn(found: Found, frame: Frame, colour_of: Colours) -> List[str]:
+    return [shade(outline, ink.rule_of(found, outline.path), frame, colour_of(outline.path))
+            for outline in found.outlines if outline.lines.paths and ink.is_inked(outline)]
+
+
+def path_colour(path: int) -> str:
     return PALETTE[path % len(PALETTE)]
 
 
-def one_drawn(found, frame, arrows):
-    drawn = boxes_drawn(found, frame, path_colour, 0, Counter())
+def list_colours() -> List[Colours]:
+    """Of each of two lists the colour of its paths, which is one for all."""
+    return [lambda path: ALONE[0][0], lambda path: ALONE[1][0]]
+
+
+def one_drawn(found: Found, frame: Frame, wishes: Wishes) -> List[str]:
+    arrows = wishes.arrows
+    drawn = ink_drawn(found, frame, path_colour) if wishes.ink else []
+    drawn += boxes_drawn(found, frame, path_colour, 0, Counter())
     drawn += [lines_drawn(outline.lines, frame, path_colour(outline.path), 2, f"path {outline.path}", arrows)
               for outline in found.outlines]
     return drawn + [rings_drawn(found, frame, 8)]
 
 
-def two_drawn(first, second, frame, arrows):
-    drawn, taken = [], Counter()
-    for side, found in enumerate((first, second)):
-        drawn += boxes_drawn(found, frame, lambda path, side=side: ALONE[side][0], side, taken)
+def two_drawn(first: Found, second: Found, frame: Frame, wishes: Wishes) -> List[str]:
+    arrows, drawn = wishes.arrows, []
+    taken: "Counter[Place]" = Counter()
+    for found, colour in zip((first, second), list_colours()):
+        drawn += ink_drawn(found, frame, colour) if wishes.ink else []
+    for side, (found, colour) in enumerate(zip((first, second), list_colours())):
+        drawn += boxes_drawn(found, frame, colour, side, taken)
     for side, (found, other) in enumerate(((first, second), (second, first))):
         shared, alone = shared_and_alone(found.lines, other.lines)
         drawn += [lines_drawn(shared, frame, *SHARED[side], "in both", arrows),

@@ -1,35 +1,33 @@
 """The sheet of paper: a head of sentences, the drawing with its scale bar, and beside it the legend."""
 import math
-from typing import NamedTuple, Optional
+from typing import Callable, List, NamedTuple, Optional, Tuple
 
-from .drawing import (ALONE, GREY, INK, RED, SHARED, frame_of, inked, one_drawn, pair, path_colour, rectangle, text,
-                      two_drawn, way)
-from .geometry import round_length
-from .saying import about_boxes, about_left, about_lines, about_outline, lacks_of, notes_of, shown, told_and_left
+from .counting import Found, Outline
+from .drawing import (ALONE, GREY, INK, RED, SHARED, Wishes, frame_of, inked, one_drawn, pair, path_colour, rectangle,
+                      text, two_drawn, way)
+from .geometry import Frame, round_length
+from .ink import is_inked, rule_of
+from .telling import about_boxes, about_left, about_lines, about_outline, lacks_of, notes_of, shown, told_and_left
 
 MARGIN, ROW, SWATCH = 30, 20, 34
 LONGEST_BAR = 200
-
-
-class Wishes(NamedTuple):
-    """What is asked of a picture: how many millimetres a unit has, if that is known, and whether arrows are drawn."""
-    millimetres: Optional[float] = None
-    arrows: bool = False
+STYLE = "path, circle { vector-effect: non-scaling-stroke }"
 
 
 class Row(NamedTuple):
     """A row of text; the mark before it is drawn around the middle of its place."""
+
     words: str
     fill: str = INK
     weight: str = "normal"
     mark: str = ""
 
 
-def sample(*inks):
+def sample(*inks: Tuple[str, float]) -> str:
     return "".join(inked([way((4, 0), (SWATCH - 10, 0))], colour, width) for colour, width in inks)
 
 
-def head_of(lists):
+def head_of(lists: List[Found]) -> List[Row]:
     names = [found.name for found in lists]
     titles = names if len(names) == 1 else [f"first: {names[0]}", f"second: {names[1]}"]
     rows = []
@@ -41,39 +39,51 @@ def head_of(lists):
     return rows
 
 
-def outline_rows(found, mark_of, before=""):
+def about_ink(found: Found, outline: Outline) -> str:
+    """By which rule a path is shaded, behind what is said of its lines."""
+    if not outline.lines.paths:
+        return ""
+    if not is_inked(outline):
+        return "; no ink is shown, since a coordinate is infinite"
+    return f"; ink by the {rule_of(found, outline.path)} rule" + (", as if it were closed" if outline.open else "")
+
+
+def outline_rows(found: Found, wishes: Wishes, mark_of: Callable[[int], str], before: str = "") -> List[Row]:
     told, left = told_and_left(found.outlines)
-    rows = [Row(before + about_outline(outline), RED if outline.open else INK, mark=mark_of(outline.path))
-            for outline in told]
+    rows = [Row(before + about_outline(outline) + (about_ink(found, outline) if wishes.ink else ""),
+                RED if outline.open else INK, mark=mark_of(outline.path)) for outline in told]
     if left:
         rows.append(Row(before + about_left(left), RED if any(outline.open for outline in left) else INK))
     return rows
 
 
-def one_rows(found):
-    return outline_rows(found, lambda path: sample((path_colour(path), 2)))
+def one_rows(found: Found, wishes: Wishes) -> List[Row]:
+    return outline_rows(found, wishes, lambda path: sample((path_colour(path), 2)))
 
 
-def two_rows(first, second):
-    rows = outline_rows(first, lambda _: sample(ALONE[0]), "first, ")
-    rows += outline_rows(second, lambda _: sample(ALONE[1]), "second, ")
+def two_rows(first: Found, second: Found, wishes: Wishes) -> List[Row]:
+    rows = outline_rows(first, wishes, lambda _: sample(ALONE[0]), "first, ")
+    rows += outline_rows(second, wishes, lambda _: sample(ALONE[1]), "second, ")
     marks = sample(*SHARED), sample(ALONE[0]), sample(ALONE[1])
     rows += [Row(words, mark=mark) for words, mark in zip(about_lines(first, second), marks)]
     return rows + [Row(about_boxes(first, second)), Row("larger rings are the first's", GREY)]
 
 
-def extent(axis, first, way_there, last, millimetres):
+def extent(axis: str, first: float, way_there: str, last: float, millimetres: Optional[float]) -> str:
     """How far the drawing goes, and how long that is where the unit is known."""
     words = f"{axis} from {shown(first)} {way_there} to {shown(last)}"
     return words if millimetres is None else f"{words}: {(last - first) * millimetres:.6g} mm"
 
 
-def key_rows(frame, wishes):
+def key_rows(frame: Frame, wishes: Wishes) -> List[Row]:
     """What the marks mean, and which way the axes point."""
     dashes = inked([rectangle((4, -5), (SWATCH - 10, 5))], GREY, 1, ' stroke-dasharray="4 4"')
     circle = inked([f'<circle cx="{SWATCH // 2 - 3}" cy="0" r="7"/>'], RED, 2)
     rows = [Row("box of a path", GREY, mark=dashes),
             Row("open point: not a start as often as an end", GREY, mark=circle)]
+    if wishes.ink:
+        mark = f'<g fill="{GREY}" fill-opacity="0.3">{rectangle((4, -6), (SWATCH - 10, 6))}</g>'
+        rows.append(Row("ink: what a fill of the path covers, by its own rule", GREY, mark=mark))
     if wishes.arrows:
         head = f'<g fill="{GREY}">{way((20, 0), (8, 5), (8, -5), end="z")}</g>'
         rows.append(Row("the way a line runs, from start to end", GREY, mark=head))
@@ -83,7 +93,7 @@ def key_rows(frame, wishes):
     return rows
 
 
-def bar_drawn(frame, millimetres, x, y):
+def bar_drawn(frame: Frame, millimetres: Optional[float], x: float, y: float) -> str:
     """The scale bar, of a round number of units, or of millimetres where a unit's are known."""
     per_unit = 1 if millimetres is None else millimetres
     length = round_length(LONGEST_BAR / frame.scale * per_unit)
@@ -94,12 +104,12 @@ def bar_drawn(frame, millimetres, x, y):
     return f'<g id="scale">{inked(marks, INK, 2)}{label}</g>'
 
 
-def width_of(rows):
+def width_of(rows: List[Row]) -> float:
     """An estimate on the wide side: how wide a letter is depends on the viewer's font."""
     return max(8.2 * len(row.words) + SWATCH for row in rows)
 
 
-def rows_drawn(rows, x, y):
+def rows_drawn(rows: List[Row], x: float, y: float) -> List[str]:
     """Words begin behind the marks, where any row has one."""
     indent = SWATCH if any(row.mark for row in rows) else 0
     drawn = []
@@ -110,13 +120,24 @@ def rows_drawn(rows, x, y):
     return drawn
 
 
-def picture_of(lists, wishes):
-    """The picture of one list, or of two."""
+class Paper(NamedTuple):
+    """A picture before it is one: its size, where the drawing lies on it, the drawing, and the words around it."""
+
+    width: int
+    height: int
+    area: Tuple[float, float, float, float]
+    drawing: List[str]
+    words: List[str]
+
+
+def paper_of(lists: List[Found], wishes: Wishes) -> Paper:
+    """The paper of one list, or of two."""
     frame, head = frame_of(lists), head_of(lists)
     if len(lists) == 1:
-        drawn, legend = one_drawn(*lists, frame, wishes.arrows), one_rows(*lists)
+        drawn, legend = one_drawn(lists[0], frame, wishes), one_rows(lists[0], wishes)
     else:
-        drawn, legend = two_drawn(*lists, frame, wishes.arrows), two_rows(*lists)
+        first, second = lists
+        drawn, legend = two_drawn(first, second, frame, wishes), two_rows(first, second, wishes)
     legend += key_rows(frame, wishes)
     top = MARGIN + ROW * len(head) + MARGIN
     below = top + frame.height + MARGIN
@@ -124,9 +145,16 @@ def picture_of(lists, wishes):
     beside = MARGIN + max(frame.width, LONGEST_BAR + 3 * MARGIN) + 2 * MARGIN  # labels and the bar need room
     width = math.ceil(max(MARGIN + width_of(head), beside + width_of(legend)) + MARGIN)
     height = math.ceil(max(below, top + ROW * len(legend)) + MARGIN)
+    area = MARGIN / 2, top - MARGIN, frame.width + MARGIN, frame.height + 2 * MARGIN
+    drawing = [f'<g id="drawing" transform="translate({pair((MARGIN, top))})">', *drawn, "</g>", bar]
+    return Paper(width, height, area, drawing, rows_drawn(head, MARGIN, MARGIN) + rows_drawn(legend, beside, top))
+
+
+def picture_of(lists: List[Found], wishes: Wishes) -> str:
+    """The picture of one list, or of two."""
+    paper = paper_of(lists, wishes)
+    width, height = paper.width, paper.height
     return "\n".join([
         f'<svg xmlns="http://www.w3.org/2000/svg" width="{width}" height="{height}" viewBox="0 0 {width} {height}">',
-        "<style>path, circle { vector-effect: non-scaling-stroke }</style>",
-        f'<rect width="{width}" height="{height}" fill="white"/>', *rows_drawn(head, MARGIN, MARGIN),
-        f'<g id="drawing" transform="translate({pair((MARGIN, top))})">', *drawn, "</g>", bar,
-        *rows_drawn(legend, beside, top), "</svg>", ""])
+        f"<style>{STYLE}</style>", f'<rect width="{width}" height="{height}" fill="white"/>', *paper.drawing,
+        *paper.words, "</svg>", ""])

@@ -1,21 +1,23 @@
-"""Saying: what was found in lists, in sentences that go to the picture and to standard error."""
+"""Telling: what was found in lists, in sentences that go to the picture and to standard error."""
 from itertools import zip_longest
+from typing import Collection, List, Tuple
 
-from .counting import shared_and_alone
+from ..columns import finite_points, place_of
+from ..saying import count
+from .counting import Found, Outline, shared_and_alone
 from .geometry import greatest_gap
-from .lists import count, finite_points, place_of
 
 # Of more outlines than this those with open points have a sentence of their own first, and the rest share one.
 MOST_OUTLINES = 40
 MOST_GAPS = 2000  # both ends of flatlist's 1,000 lines; more would take long
 
 
-def shown(x):
+def shown(x: float) -> str:
     """Nine digits tell every f32 from every other."""
     return f"{x:.9g}"
 
 
-def about_gaps(points):
+def about_gaps(points: Collection[int]) -> str:
     """How near open points lie to each other, which tells a last bit from a lost line."""
     finite = finite_points(points)
     far = len(points) - len(finite)
@@ -26,12 +28,12 @@ def about_gaps(points):
     return words
 
 
-def about_outline(outline):
+def about_outline(outline: Outline) -> str:
     points = count(len(outline.open), "open point") + about_gaps(outline.open)
     return f"path {outline.path}: {count(len(outline.lines.paths), 'line')}, {points}"
 
 
-def told_and_left(outlines):
+def told_and_left(outlines: List[Outline]) -> Tuple[List[Outline], List[Outline]]:
     """The outlines that have a sentence each, and those that share one."""
     if len(outlines) <= MOST_OUTLINES:
         return outlines, []
@@ -39,18 +41,18 @@ def told_and_left(outlines):
     return sorted(by_weight[:MOST_OUTLINES]), by_weight[MOST_OUTLINES:]
 
 
-def about_left(outlines):
-    lines, points = (sum(len(part) for part in parts) for parts in
-                     ([outline.lines.paths for outline in outlines], [outline.open for outline in outlines]))
+def about_left(outlines: List[Outline]) -> str:
+    lines = sum(len(outline.lines.paths) for outline in outlines)
+    points = sum(len(outline.open) for outline in outlines)
     return f"and {count(len(outlines), 'more path')}: {count(lines, 'line')}, {count(points, 'open point')}"
 
 
-def about_outlines(outlines):
+def about_outlines(outlines: List[Outline]) -> List[str]:
     told, left = told_and_left(outlines)
     return [about_outline(outline) for outline in told] + ([about_left(left)] if left else [])
 
 
-def lacks_of(found):
+def lacks_of(found: Found) -> List[str]:
     """What a picture of the list lacks, a sentence each."""
     lacks = []
     if found.refusal:
@@ -61,12 +63,12 @@ def lacks_of(found):
     return lacks
 
 
-def notes_of(found):
+def notes_of(found: Found) -> List[str]:
     """What a reader may miss, though the picture lacks nothing."""
     return [] if found.lines.paths else ["the list has no lines"]
 
 
-def about_lines(first, second):
+def about_lines(first: Found, second: Found) -> Tuple[str, str, str]:
     """Of both lists together: the lines that both have, that only the first has, and that only the second has."""
     shared, alone = shared_and_alone(first.lines, second.lines)
     rest = len(second.lines.paths) - len(shared.paths)
@@ -74,13 +76,13 @@ def about_lines(first, second):
     return both, f"{len(alone.paths):,} only in the first", f"{rest:,} only in the second"
 
 
-def about_boxes(first, second):
+def about_boxes(first: Found, second: Found) -> str:
     pairs = enumerate(zip_longest(first.boxes, second.boxes))
     differ = [str(path) for path, (box, other) in pairs if box != other]
     return f"boxes differ at path {', '.join(differ)}" if differ else "the boxes are the same"
 
 
-def sentences_of(lists):
+def sentences_of(lists: List[Found]) -> List[str]:
     """All that is said of one list or two."""
     said = [f"{found.name}: {sentence}" for found in lists
             for sentence in about_outlines(found.outlines) + lacks_of(found) + notes_of(found)]

@@ -1,7 +1,11 @@
 """Geometry: where a point lies on the picture, how near points lie to each other, arrows on a chain, round lengths."""
 import math
+from array import array
+from typing import Iterable, Iterator, List, Sequence, Tuple
 
-from .lists import places_of
+from ..columns import places_of
+
+Place = Tuple[float, float]
 
 LONGEST = 800  # of the drawing, in the picture's units
 STRIDE = 90  # from arrow to arrow
@@ -14,7 +18,7 @@ class Frame:
     count in f32, would cut off what their difference needs. The scale is a power of two.
     """
 
-    def __init__(self, xs, ys):
+    def __init__(self, xs: Sequence[float], ys: Sequence[float]) -> None:
         self.is_empty = not xs
         self.x0, self.x1 = (min(xs), max(xs)) if xs else (0, 0)
         self.y0, self.y1 = (min(ys), max(ys)) if ys else (0, 0)
@@ -22,20 +26,20 @@ class Frame:
         self.scale = math.ldexp(1, math.frexp(LONGEST / longest)[1] - 1) if longest else 1.0
         self.width, self.height = self.at((self.x1, self.y1))
 
-    def at(self, place):
+    def at(self, place: Sequence[float]) -> Place:
         return (place[0] - self.x0) * self.scale, (place[1] - self.y0) * self.scale
 
-    def all_at(self, points):
-        return [self.at(place) for place in zip(*places_of(points))]
+    def all_at(self, points: Iterable[int]) -> List[Place]:
+        return [self.at(place) for place in zip(*places_of(array("Q", points)))]
 
 
-def greatest_gap(places):
+def greatest_gap(places: Iterable[Place]) -> float:
     """The greatest of the distances from a place to the nearest other one."""
     ordered = sorted(places)
     return max(nearest_to(ordered, index) for index in range(len(ordered)))
 
 
-def nearest_to(ordered, index):
+def nearest_to(ordered: List[Place], index: int) -> float:
     """Looks to both sides, as far as x alone can be nearer."""
     best = math.inf
     for step in (1, -1):
@@ -46,14 +50,14 @@ def nearest_to(ordered, index):
     return best
 
 
-def heads_along(places, most):
+def heads_along(places: List[Place], most: float) -> Iterator[Tuple[Place, Place, float]]:
     """Arrow heads on a chain, in the middle of a line each: the place, the way as a unit, the size.
 
     There is one on each chain that has a length, and one about every STRIDE.
     """
     steps = list(zip(places, places[1:]))
     lengths = [math.dist(*step) for step in steps]
-    size, walked, due = min(most, sum(lengths) / 2), 0, min(sum(lengths), STRIDE) / 2
+    size, walked, due = min(most, sum(lengths) / 2), 0.0, min(sum(lengths), STRIDE) / 2
     for ((x0, y0), (x1, y1)), length in zip(steps, lengths):
         walked += length
         if length and walked >= due:
@@ -61,7 +65,7 @@ def heads_along(places, most):
             due = walked + STRIDE
 
 
-def round_length(most):
+def round_length(most: float) -> float:
     """The greatest of 1, 2 and 5 times a power of ten that is not above most."""
     power = 10.0 ** math.floor(math.log10(most))
     return max(length for length in (power / 2, power, 2 * power, 5 * power) if length <= most)

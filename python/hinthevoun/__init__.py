@@ -1,0 +1,27 @@
+"""Hinthevoun: from the encoded paths of a scene to lines and boxes, by the proved library.
+
+The functions are those of include/hinthevoun.h, one for one:
+
+    scan, flatten                                   from tags, points, transforms and styles to lines and boxes
+    sqrt, hypot, cbrt, two_thirds, half,
+    sin, cos, atan2, asin, acos                     the mathematics, each answer an f32
+
+A list is an array, bytes, a memoryview or any other buffer of 32-bit words; it is lent as it is, without a copy. A
+refusal is the exception Refusal. The triangle of docs/FLATLIST.md:
+
+    from array import array
+    import hinthevoun
+    words = array("I", [int(row, 16) for row in open("samples/triangle.sheet")])
+    layout, scene = hinthevoun.Layout(*words[:5]), words[6:]
+    prefixes, boxes, lines = array("I", bytes(16 * 64)), hinthevoun.empty_boxes(words[5]), array("I", bytes(24 * 10))
+    hinthevoun.scan(scene, layout.tag_base, prefixes)
+    hinthevoun.flatten(*layout, scene, prefixes, boxes, lines)    # 3, and three lines of six words in `lines`
+"""
+from .calls import EMPTY_BOX, Layout, empty_boxes, flatten, scan
+from .errors import NoLibrary, Wrong
+from .maths import acos, asin, atan2, cbrt, cos, half, hypot, sin, sqrt, two_thirds
+from .refusals import Refusal
+
+__version__ = "0.1.0"
+__all__ = ["EMPTY_BOX", "Layout", "NoLibrary", "Refusal", "Wrong", "acos", "asin", "atan2", "cbrt", "cos", "empty_boxes",
+           "flatten", "half", "hypot", "scan", "sin", "sqrt", "two_thirds"]

@@ -1,0 +1,76 @@
+"""Lines as columns: what is counted and drawn."""
+import math
+import struct
+import sys
+from array import array
+from itertools import compress
+from typing import Iterable, List, NamedTuple, Tuple, Union
+
+from .words import in_reading_order
+
+
+class Lines(NamedTuple):
+    """Three columns, a line at each index. A point is one number: the bits of x above those of y."""
+
+    paths: "array[int]"
+    starts: "array[int]"
+    ends: "array[int]"
+
+    def at(self, indexes: Union[slice, List[int]]) -> "Lines":
+        """The lines at these indexes, or in a slice."""
+        if isinstance(indexes, slice):
+            return Lines(*(column[indexes] for column in self))
+        return Lines(*(array(column.typecode, [column[i] for i in indexes]) for column in self))
+
+    def far(self) -> List[int]:
+        """The indexes of those with an infinite coordinate, which cannot be drawn."""
+        columns = [*places_of(self.starts), *places_of(self.ends)]
+        if all(all(map(math.isfinite, column)) for column in columns):
+            return []
+        return [i for i, place in enumerate(zip(*columns)) if not all(map(math.isfinite, place))]
+
+    def drawable(self) -> "Lines":
+        """Those without an infinite coordinate."""
+        far = set(self.far())
+        return self.at([i for i in range(len(self.paths)) if i not in far]) if far else self
+
+
+def no_lines() -> Lines:
+    return Lines(array("I"), array("Q"), array("Q"))
+
+
+def column_of(kind: str, data: bytes) -> array:
+    """An array of the numbers that stand in the bytes, each with its highest byte first."""
+    column = array(kind, data)
+    if sys.byteorder == "little":
+        column.byteswap()
+    return column
+
+
+def lines_of_words(words: Union["array[int]", memoryview]) -> Lines:
+    """The columns of records of six words."""
+    data = in_reading_order(array("I", bytes(words))).tobytes()
+    paths, pairs = column_of("I", data)[0::6], column_of("Q", data)
+    return Lines(paths, pairs[1::3], pairs[2::3])
+
+
+def places_of(points: "array[int]") -> Tuple[array, array]:
+    """The x of each point, and the y."""
+    ordered = array("Q", points)
+    if sys.byteorder == "little":
+        ordered.byteswap()
+    floats = column_of("f", ordered.tobytes())
+    return floats[0::2], floats[1::2]
+
+
+def place_of(point: int) -> Tuple[float, float]:
+    """The x and y of one point."""
+    x, y = struct.unpack(">2f", struct.pack(">Q", point))
+    return x, y
+
+
+def finite_points(points: Iterable[int]) -> List[int]:
+    """Those with no infinite coordinate."""
+    points = list(points)
+    finite = [math.isfinite(x) and math.isfinite(y) for x, y in zip(*places_of(array("Q", points)))]
+    return list(compress(points, finite))

@@ -1,0 +1,1 @@
+"""The commands, a module each: `parser` says how it is used, `run` does it and returns the exit status."""
