@@ -16,8 +16,8 @@ const ROUNDS: usize = 200;
 type Pairs = Vec<[f32; 2]>;
 
 pub fn run() {
-    println!("ns a call          independent           dependent");
-    println!("                   ours     Rust         ours     Rust");
+    println!("ns a call              independent           dependent");
+    println!("                       ours     Rust         ours     Rust");
     let sizes = pairs(|r| of_exponents(107..147, r).abs());
     let alike = pairs(|r| of_exponents(125..129, r));
     let subnormal = pairs(|r| f32::from_bits(r.word() % (1 << 23)));
@@ -25,8 +25,10 @@ pub fn run() {
     row("sqrt, subnormal", &subnormal, |x, _| ffi::sqrt(x), |x, _| x.sqrt());
     row("hypot", &sizes, ffi::hypot, f32::hypot);
     row("hypot, like sizes", &alike, ffi::hypot, f32::hypot);
-    row("cbrt", &sizes, |x, _| ffi::cbrt(x), |x, _| x.cbrt());
-    row("two_thirds", &sizes, |x, _| ffi::two_thirds(x), |x, _| x.powf(2. / 3.));
+    for (kind, inputs) in [("", &sizes), (", subnormal", &subnormal)] {
+        row(&format!("cbrt{kind}"), inputs, |x, _| ffi::cbrt(x), |x, _| x.cbrt());
+        row(&format!("two_thirds{kind}"), inputs, |x, _| ffi::two_thirds(x), |x, _| x.powf(2. / 3.));
+    }
     trig(&alike);
 }
 
@@ -70,7 +72,7 @@ fn row(name: &str, inputs: &Pairs, ours: impl Fn(f32, f32) -> f32, stock: impl F
         }
     }
     let [a, b, c, d] = best;
-    println!("{name:<18} {a:>5.1}    {b:>5.1}        {c:>5.1}    {d:>5.1}");
+    println!("{name:<22} {a:>5.1}    {b:>5.1}        {c:>5.1}    {d:>5.1}");
 }
 
 fn independent(inputs: &Pairs, call: impl Fn(f32, f32) -> f32) -> f64 {

@@ -4,6 +4,7 @@ pub mod Upward
 pub mod Packing
 pub mod Feeding
 pub mod Squares
-pub mod Cubes
 pub mod Sums
+pub mod Products
 pub mod Candidates
+pub mod Cubes

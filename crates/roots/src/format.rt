@@ -20,33 +20,39 @@ pub(crate) fn pattern(x: f32) -> u32
     f32::to_bits(x) % 0x8000_0000
 }
 
+// A number m * 2 ^ t, with all 24 digits in m.
+pub(crate) struct Full {
+    pub(crate) m: u32,
+    pub(crate) t: u32,
+}
+
 // n * 2 ^ 149 with all 24 digits in m: a subnormal's digits moved up.
-fn scale(n: u64) -> Parts
+fn scale(n: u32) -> Full
     requires { ⌜ (0 < n) × (n < 2 ^ 23) ⌝ }
     ensures { λ r. ⌜ Scaled (n * 2 ^ 149) (r .m) (r .t) ⌝ }
 {
     let mut m = n;
-    let mut t = 149u64;
+    let mut t = 149u32;
     while m < 0x80_0000 {
         m = m * 2;
         t = t - 1;
     }
-    Parts { m, t }
+    Full { m, t }
 }
 
 // The finite f32 above zero with the pattern b, in units of 2 ^ -298.
-pub(crate) fn unpack(b: u32) -> Parts
+pub(crate) fn unpack(b: u32) -> Full
     requires { ⌜ (0 < b) × (b < 0x7f80_0000) ⌝ }
     ensures { λ r. ⌜ Parted b (r .m) (r .t) ⌝ }
 {
     let x = b / 0x80_0000;
     let f = b % 0x80_0000;
     if x == 0 {
-        scale(f as u64)
+        scale(f)
     } else {
-        Parts {
-            m: (f + 0x80_0000) as u64,
-            t: (x + 148) as u64,
+        Full {
+            m: f + 0x80_0000,
+            t: x + 148,
         }
     }
 }

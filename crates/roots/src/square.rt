@@ -50,8 +50,8 @@ fn sqrt_digits(b: u32) -> u32
     ensures { λ r. ⌜ rootBits 2 (magBits b * 2 ^ 149) r ⌝ }
 {
     let p = unpack(b);
-    let m = p.m;
-    let t = p.t;
+    let m = p.m as u64;
+    let t = p.t as u64;
     let w = m * (0x40_0000_0000 - t % 2 * 0x20_0000_0000);
     let s = feed2(Root { r: 0, e: 0 }, w, 25);
     pack(s, (t - 23) / 2)

@@ -7,11 +7,12 @@ use borrow.Author.Needs.{needs}
 use Rattle.roots.proofs.cube.power.Statement.{statement}
 use Rattle.roots.proofs.cube.power.Tie as tie
 
-small : (n : ℕ) → n < 3 → 1 * 2 ^ n % 2 ^ 64 ≡ 2 ^ n
+small : (n : ℕ) → n < 4 → 1 * 2 ^ n % 2 ^ 32 ≡ 2 ^ n
 small zero h = refl
 small (suc zero) h = refl
 small (suc (suc zero)) h = refl
-small (suc (suc (suc n))) h = absurd (lt-irrefl 0 (omega arith))
+small (suc (suc (suc zero))) h = refl
+small (suc (suc (suc (suc n)))) h = absurd (lt-irrefl 0 (omega arith))
 
 returns : tie.Need-returns
 returns c = small (c .args .n) (c .pre)

@@ -1,0 +1,10 @@
+-- `roots::cube::settled` meets its contract. Assumes nothing.
+use borrow.Author.Needs.{needs}
+use Rattle.roots.proofs.cube.settled.Statement.{statement}
+use Rattle.roots.proofs.cube.settled.Tie as tie
+
+returns : tie.Need-returns
+returns c = c .before .is-near .ensures (c .if1 .taken)
+
+pub settled-spec : {M : Type 1} → statement M
+settled-spec = tie.close (tie.spec (λ c κs. search needs) returns (λ c κs. search needs) (λ c. search needs))
