@@ -140,8 +140,11 @@ pub fn step(
         HeadRead::Found(head) => {
             // Each tag starts a box of its own.
             let fresh = IntBbox::empty();
+            // Lines tell their tag by its index modulo 2^32.
+            let tag = (t.tag % 4294967296) as u32;
             let pen = Pen {
                 count: t.count,
+                tag,
                 bbox: fresh,
             };
             let drawn = draw_tag(layout, scene, prefixes, lines, t.tag, head, pen);

@@ -52,7 +52,7 @@ module _ (c : Call) (accepted : Accepted c) where
     unfolding recordsAt
     one i h =
         let p = place i h in
-        rw (p .is) (in-records x y (headOf c i .tag .monoid .«path_ix») (drawnAt c i) (p .rest) (done c accepted .sound i h .lines))
+        rw (p .is) (in-records x y (headOf c i .tag .monoid .«path_ix») (tagWord i) (drawnAt c i) (p .rest) (done c accepted .sound i h .lines))
 
     pub as-drawn : (z : List ℕ) (is : List ℕ) → Each (Filled c z) is
         → (stored c 2 x y is ≡ starts x y (linesOf c is)) × (stored c 4 x y is ≡ ends x y (linesOf c is))
