@@ -6,6 +6,7 @@ use native.Mathlib.Omega.{arith}
 use native.Mathlib.Decide.{ℕ-discrete}
 use lib.ListN.{length, drop}
 use lib.Seq.{drop-at}
+use Rattle.flatten.specs.Step.{tagWord}
 use Rattle.watertight.specs.Count.{among, starts, ends}
 use Rattle.watertight.specs.Balance.{in-records, starts-append, ends-append}
 use Rattle.watertight.specs.Fill.{Call, Accepted, outcome, tags, headOf, drawnAt, Filled, Each, linesOf, countBefore, stored}
