@@ -3,7 +3,7 @@ ghost use mathlib.Core.Path.{_≡_};
 ghost use Prim.Native.Nat.{_-_, _<_};
 ghost use Rattle.drawing.specs.Sheet.{sheet};
 ghost use Rattle.flatten.specs.Tag.{eventsAt};
-ghost use Rattle.flatten.specs.Step.{drawnOf, changeOf, turnOf, refusedAt, stepped, stepOf};
+ghost use Rattle.flatten.specs.Step.{tagWord, drawnOf, changeOf, turnOf, refusedAt, stepped, stepOf};
 use crate::boxes::Change;
 use crate::call::Layout;
 use crate::call::Stop;
@@ -125,6 +125,13 @@ fn refused_at(t: Turn, why: Refusal) -> Turn
     }
 }
 
+// By which the lines of a tag tell it: its index modulo 2^32.
+fn tag_word(ix: u64) -> u32
+    ensures { λ r. ⌜ r ≡ tagWord ix ⌝ }
+{
+    (ix % 4294967296) as u32
+}
+
 pub fn step(
     layout: Layout,
     scene: &[u32],
@@ -140,8 +147,7 @@ pub fn step(
         HeadRead::Found(head) => {
             // Each tag starts a box of its own.
             let fresh = IntBbox::empty();
-            // Lines tell their tag by its index modulo 2^32.
-            let tag = (t.tag % 4294967296) as u32;
+            let tag = tag_word(t.tag);
             let pen = Pen {
                 count: t.count,
                 tag,

@@ -9,7 +9,7 @@ returns : tie.Need-returns
 unfolding stepBy stepFromBy
 returns c =
     let e = c .before .before .before .before .before .before in
-    (rw (← (e .before .before .before .before .read-head .ensures), e .before .before .head .given .1, c .turn-of .ensures) (went _ _ _ _ _ _ _ _ (e .empty .ensures) (c .before .before .before .draw-tag .ensures)), fewer _ _ _ _ (c .turn-of .ensures))
+    (rw (← (e .before .before .before .before .read-head .ensures), e .before .before .head .given .1, c .turn-of .ensures) (went _ _ _ _ _ _ _ _ _ (c .before .before .before .before .before .tag-word .ensures) (e .empty .ensures) (c .before .before .before .draw-tag .ensures)), fewer _ _ _ _ (c .turn-of .ensures))
 
 returns-2 : tie.Need-returns-2
 unfolding stepBy stepFromBy
