@@ -1,9 +1,9 @@
 // One tag.
 ghost use mathlib.Core.Path.{_≡_};
-ghost use Prim.Native.Nat.{_-_, _<_};
+ghost use Prim.Native.Nat.{_+_, _-_, _%_, _^_, _<_};
 ghost use Rattle.drawing.specs.Sheet.{sheet};
 ghost use Rattle.flatten.specs.Tag.{eventsAt};
-ghost use Rattle.flatten.specs.Step.{drawnOf, changeOf, turnOf, refusedAt, stepped, stepOf};
+ghost use Rattle.flatten.specs.Step.{tagWord, drawnOf, changeOf, turnOf, refusedAt, stepped, stepOf};
 use crate::boxes::Change;
 use crate::call::Layout;
 use crate::call::Stop;
@@ -75,6 +75,13 @@ fn one_less(left: u64) -> u64
     if left == 0 { 0 } else { left - 1 }
 }
 
+// An index is 64 bits wide and wraps.
+fn next_index(ix: u64) -> u64
+    ensures { λ r. ⌜ r ≡ (ix + 1) % 2 ^ 64 ⌝ }
+{
+    std::num::wrapping_add_u64(ix, 1)
+}
+
 fn turn_of(t: Turn, head: Head, drawn: Drawn) -> Turn
     ensures { λ r. ⌜ r ≡ turnOf t head drawn ⌝ }
 {
@@ -84,7 +91,7 @@ fn turn_of(t: Turn, head: Head, drawn: Drawn) -> Turn
             let change = change_of(head, pen.bbox);
             Turn {
                 left: one_less(t.left),
-                tag: std::num::wrapping_add_u64(t.tag, 1),
+                tag: next_index(t.tag),
                 count: pen.count,
                 stop: Stop::Going,
                 at,
@@ -125,6 +132,13 @@ fn refused_at(t: Turn, why: Refusal) -> Turn
     }
 }
 
+// By which the lines of a tag tell it: its index modulo 2^32.
+fn tag_word(ix: u64) -> u32
+    ensures { λ r. ⌜ r ≡ tagWord ix ⌝ }
+{
+    (ix % 4294967296) as u32
+}
+
 pub fn step(
     layout: Layout,
     scene: &[u32],
@@ -140,8 +154,10 @@ pub fn step(
         HeadRead::Found(head) => {
             // Each tag starts a box of its own.
             let fresh = IntBbox::empty();
+            let tag = tag_word(t.tag);
             let pen = Pen {
                 count: t.count,
+                tag,
                 bbox: fresh,
             };
             let drawn = draw_tag(layout, scene, prefixes, lines, t.tag, head, pen);
