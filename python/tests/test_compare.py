@@ -5,7 +5,8 @@ import unittest
 from html.parser import HTMLParser
 
 import browser
-from support import SOCKET_LINES, SOCKET_SHEET, TRIANGLE_SHEET, hinth, holds, in_folder, listed, packed, record, same, triangle
+from support import SOCKET_LINES, SOCKET_SHEET, TRIANGLE_SHEET, hinth, holds, in_folder, listed, packed, record, same, \
+    triangle
 
 TRIANGLE = TRIANGLE_SHEET.read_text()
 VOID = {"meta", "br", "img", "input", "link"}
@@ -158,7 +159,8 @@ class Page(unittest.TestCase):
         old, new = folder / "old", folder / "new"
         for place in (old, new):
             place.mkdir()
-        (old / "a.lines").write_text(re.sub("^([0-9a-f]{8}) [0-9a-f]{8}", r"\1 00000000", SOCKET_LINES.read_text(), flags=re.M))
+        untold = re.sub("^([0-9a-f]{8}) [0-9a-f]{8}", r"\1 00000000", SOCKET_LINES.read_text(), flags=re.M)
+        (old / "a.lines").write_text(untold)
         (new / "a.sheet").write_text(SOCKET_SHEET.read_text())
         result = hinth("compare", old, new, "-o", "-")
         same((result.status, [card["kind"] for card in Cards(result.out.decode()).cards]), (0, ["the same"]))

@@ -200,7 +200,7 @@ def rings_drawn(found: Found, frame: Frame, radius: int) -> str:
     if sum(len(points) for _, points in finite) > MOST_RINGS:
         dots = [f"M{pair(place)}h0" for _, points in finite for place in frame.all_at(points)]
         parts = ["".join(dots[first:first + MOST_LINES]) for first in range(0, len(dots), MOST_LINES)]
-        return inked([f'<path d="{part}"/>\n' for part in parts], RED, radius, ' class="dots"')
+        return inked([f'<path d="{part}"/>\n' for part in parts], RED, radius, ' class="dots" pointer-events="none"')
     rings = [ring(outline, point, frame, radius) for outline, points in finite for point in points]
     return inked(rings, RED, 2, ' pointer-events="all"')
 

@@ -31,8 +31,8 @@ def about_drawers(paths: Sequence[int], tags: Sequence[int]) -> str:
 def about_tag(found: Found, tag: int) -> str:
     """How many lines a tag drew, and of how many that is not known."""
     drawn, untold = len(found.lines.drawn_by(tag)), found.lines.tags.count(0)
-    words = f"tag {tag} drew {count(drawn, 'line') if drawn else 'no line'}"
-    return words + (f"; of {count(untold, 'line')} the list does not tell the tag: flatten the sheet again" if untold else "")
+    rest = f"; of {count(untold, 'line')} the list does not tell the tag: flatten the sheet again" if untold else ""
+    return f"tag {tag} drew {count(drawn, 'line') if drawn else 'no line'}{rest}"
 
 
 def about_gaps(points: Collection[int]) -> str:
