@@ -130,7 +130,8 @@ struct hinth_box {
  * four to a word, the points from data_base on, transforms of six words from transform_base and styles of two from
  * style_base. The prefixes are those of hinth_scan for the same scene and tag_base.
  *
- * A line is six words: its path, 0, and the bits of the floats x and y of its start and of its end. Lines are stored
+ * A line is six words: its path, the index of the tag that drew it (modulo 2^32, as out[0] counts them; lines of a join
+ * or a cap have the tag being drawn), and the bits of the floats x and y of its start and of its end. Lines are stored
  * from lines[0] on; room is for line_words / 6 of them, and words behind the last one stored are not touched. A subpath
  * that the scene leaves open is not closed.
  *

@@ -25,15 +25,15 @@ static void check(const char *what, int right) {
 
 #define CHECK(what) check(#what, what)
 
-/* A triangle: its tags at word 0, points at 64, transform at 68, style at 74; and what is stored of it. */
+/* A triangle: its tags at word 0, points at 64, transform at 68, style at 74; and what is stored of it, by tags 2 to 4. */
 #define SCENE_LEN 76
 #define TRANSFORM 68
 #define STYLE 74
 static uint32_t triangle[SCENE_LEN] = {
     [0] = 0x01014020u, 0x00001005u, [64] = 0x00000000u, 0x00000003u, 0x00060000u, 0x00000000u,
     [TRANSFORM] = 0x3f800000u, 0, 0, 0x3f800000u, 0, 0, [STYLE] = 0, 0};
-static const uint32_t triangle_lines[18] = {0, 0, 0, 0, 0x40400000u, 0, 0, 0, 0x40400000u,
-                                            0, 0, 0x40c00000u, 0, 0, 0, 0x40c00000u, 0, 0};
+static const uint32_t triangle_lines[18] = {0, 2, 0, 0, 0x40400000u, 0, 0, 3, 0x40400000u,
+                                            0, 0, 0x40c00000u, 0, 4, 0, 0x40c00000u, 0, 0};
 
 /* What one call is lent: lists one longer than the scan, the lines and the answer need, filled with a mark. */
 #define MARK 0xa5a5a5a5u

@@ -46,9 +46,10 @@ fn port_scan(given: &Given) -> Left {
     left(told.map(|count| count as u64), words, Vec::new())
 }
 
-/// The tag that the port told is where the source's is looked for first.
-fn source_flatten(given: &Given, guess: u64) -> Left {
-    let Told { stop, tag, count, lines, boxes } = given.told(guess);
+/// The tags that the port told are where the source's are looked for first.
+fn source_flatten(given: &Given, port: &Left) -> Left {
+    let tags: Vec<_> = port.words.chunks_exact(6).take(port.count as usize).map(|line| line[1]).collect();
+    let Told { stop, tag, count, lines, boxes } = given.told_with_tags(port.tag, &tags);
     Left { stop, tag, count, words: guarded(&lines, !0), boxes: boxes_of(&boxes) }
 }
 
@@ -103,7 +104,7 @@ impl Both {
 
     fn flatten(given: &Given) -> Self {
         let port = port_flatten(given);
-        Self { call: "flatten", source: source_flatten(given, port.tag), port }
+        Self { call: "flatten", source: source_flatten(given, &port), port }
     }
 
     fn differ(&self) -> bool {

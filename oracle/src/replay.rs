@@ -73,7 +73,7 @@ pub fn list() {
         let is_new = is_wanted(&mut names, &scene.names, OF_EACH_NAME);
         let least = if told.stop == Stop::NONE { ACCEPTED } else { OF_EACH_STOP };
         if fits(&scene.given) && (is_wanted(&mut stops, &[told.stop.word()], least) || is_new) {
-            print(&scene.given, &told);
+            print(&scene.given, &scene.given.told_with_tags(told.tag, &[]));
         }
     }
 }

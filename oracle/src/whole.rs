@@ -1,6 +1,7 @@
 //! The whole call of the source: what it answers, what it stores, and what it merges.
 
 use std::cell::RefCell;
+use std::iter;
 
 use vello_encoding::{BumpAllocators, ConfigUniform, Layout, LineSoup, Monoid, PathBbox, PathMonoid};
 
@@ -75,16 +76,52 @@ impl Given {
 
     /// How many lines the source stores with so much room, whatever is lent.
     pub fn lines_stored(&self, room: usize) -> usize {
+        self.lines_stored_by(published::reach_main, self.n_wg, room)
+    }
+
+    fn lines_stored_by(&self, main: Main, n_wg: u32, room: usize) -> usize {
         thread_local! {
             static LINES: RefCell<Vec<LineSoup>> = const { RefCell::new(Vec::new()) };
         }
         LINES.with_borrow_mut(|lines| {
             lines.resize(room, UNSTORED);
-            self.call(published::reach_main, self.n_wg, &mut self.boxes.clone(), lines);
+            self.call(main, n_wg, &mut self.boxes.clone(), lines);
             let count = stored(lines);
             lines[..count].fill(UNSTORED);
             count
         })
+    }
+
+    /// How many tags there are, or one more than the scene has: no tag is behind its end.
+    fn tags(&self) -> u64 {
+        (u64::from(self.n_wg) * 256).min(4 * self.scene.len() as u64 + 1)
+    }
+
+    /// The tag that drew each of the lines stored: the source is asked how many lines the first tags store, between two
+    /// numbers of tags for as long as that differs. A good guess makes it quick.
+    pub fn line_tags(&self, count: usize, guess: &[u32]) -> Vec<u32> {
+        let mut cuts: Vec<_> = guess.iter().flat_map(|tag| [u64::from(*tag), u64::from(*tag) + 1]).collect();
+        cuts.sort_unstable();
+        cuts.dedup();
+        let mut tags = Vec::with_capacity(count);
+        self.divide((0, 0), (self.tags(), count), &cuts, &mut tags);
+        tags
+    }
+
+    /// From so many tags, which store so many lines, to more of them.
+    fn divide(&self, from: (u64, usize), to: (u64, usize), cuts: &[u64], tags: &mut Vec<u32>) {
+        if from.1 == to.1 {
+            return;
+        }
+        if to.0 - from.0 == 1 {
+            tags.extend(iter::repeat_n(from.0 as u32, to.1 - from.1));
+            return;
+        }
+        let cut = cuts.iter().find(|cut| (from.0 + 1..to.0).contains(cut));
+        let between = cut.copied().unwrap_or((from.0 + to.0) / 2);
+        let stored = self.lines_stored_by(published::reach_tag_by_tag, between as u32, self.lines.len() / 6);
+        self.divide(from, (between, stored), cuts, tags);
+        self.divide((between, stored), to, cuts, tags);
     }
 
     /// How many tags can be done, one after another, before the one at which the source panics. A good guess makes it
@@ -94,8 +131,7 @@ impl Given {
         let mut sheet = Sheet::new(&self.lines);
         let mut stops =
             |tags: u64| self.call(published::reach_tag_by_tag, tags as u32, &mut boxes, sheet.lines()).0 != Stop::NONE;
-        // No tag is behind the scene's end.
-        let (mut done, mut stopped) = (0, (u64::from(self.n_wg) * 256).min(4 * self.scene.len() as u64 + 1));
+        let (mut done, mut stopped) = (0, self.tags());
         let mut guesses = [guess, guess + 1].into_iter();
         while stopped - done > 1 {
             let between = guesses.find(|tags| (done + 1..stopped).contains(tags));
@@ -120,6 +156,14 @@ impl Given {
         // The bases are looked at before any tag.
         let tag = if stop.number > 1 { self.tags_done(guess) } else { 0 };
         Told { stop, tag, count, lines: sheet.words(), boxes }
+    }
+
+    /// The same, where the second word of every line stored is the tag that drew it.
+    pub fn told_with_tags(&self, guess: u64, guessed_tags: &[u32]) -> Told {
+        let mut told = self.told(guess);
+        let tags = self.line_tags(told.count as usize, guessed_tags);
+        told.lines.chunks_exact_mut(6).zip(tags).for_each(|(line, tag)| line[1] = tag);
+        told
     }
 }
 
@@ -194,6 +238,8 @@ mod tests {
         assert_eq!(told.lines[6..12], [0, 0, three, zero, zero, six]);
         assert_eq!(told.lines[12..18], [0, 0, zero, six, zero, zero]);
         assert_eq!(told.lines[18..], given.lines[18..]);
+        assert_eq!(given.line_tags(3, &[]), [2, 3, 4]);
+        assert_eq!(given.line_tags(3, &[2, 2, 5]), [2, 3, 4]);
         assert_eq!(told.boxes, [BOX]);
     }
 
@@ -255,6 +301,7 @@ mod tests {
         assert_eq!(stroke(0x8000_0000, 1., 0x05).answer(), (0, 0, 4));
         assert_eq!(stroke(0x8000_0000, f32::NAN, 0x06).answer(), (8, 2, 0));
         assert_eq!(stroke(0xb000_0000, 1., 0x05).answer(), (7, 2, 2));
+        assert_eq!(stroke(0x8000_0000, 1., 0x06).line_tags(4, &[]), [2, 2, 2, 3]);
     }
 
     /// The ceiling and the floor that the source is given are std's.

@@ -10,9 +10,11 @@ from .words import in_reading_order
 
 
 class Lines(NamedTuple):
-    """Three columns, a line at each index. A point is one number: the bits of x above those of y."""
+    """Four columns, a line at each index. A point is one number: the bits of x above those of y. A tag of 0 is one that
+    the list does not tell: no tag 0 draws, as no transform stands before it, and lists had 0 there once."""
 
     paths: "array[int]"
+    tags: "array[int]"
     starts: "array[int]"
     ends: "array[int]"
 
@@ -31,12 +33,20 @@ class Lines(NamedTuple):
 
     def drawable(self) -> "Lines":
         """Those without an infinite coordinate."""
-        far = set(self.far())
-        return self.at([i for i in range(len(self.paths)) if i not in far]) if far else self
+        return self.without(self.far())
+
+    def without(self, indexes: List[int]) -> "Lines":
+        """Those that are not at these indexes."""
+        gone = set(indexes)
+        return self.at([i for i in range(len(self.paths)) if i not in gone]) if gone else self
+
+    def drawn_by(self, tag: int) -> List[int]:
+        """The indexes of those that a tag drew."""
+        return [i for i, drawer in enumerate(self.tags) if drawer == tag] if tag and tag in self.tags else []
 
 
 def no_lines() -> Lines:
-    return Lines(array("I"), array("Q"), array("Q"))
+    return Lines(array("I"), array("I"), array("Q"), array("Q"))
 
 
 def column_of(kind: str, data: bytes) -> array:
@@ -50,8 +60,8 @@ def column_of(kind: str, data: bytes) -> array:
 def lines_of_words(words: Union["array[int]", memoryview]) -> Lines:
     """The columns of records of six words."""
     data = in_reading_order(array("I", bytes(words))).tobytes()
-    paths, pairs = column_of("I", data)[0::6], column_of("Q", data)
-    return Lines(paths, pairs[1::3], pairs[2::3])
+    singles, pairs = column_of("I", data), column_of("Q", data)
+    return Lines(singles[0::6], singles[1::6], pairs[1::3], pairs[2::3])
 
 
 def places_of(points: "array[int]") -> Tuple[array, array]:

@@ -169,21 +169,17 @@ def lines_of_text(name: str, text: bytes) -> Lines:
 
 
 def check_records(words: "array[int]", wrong: Callable[[int, str], Wrong]) -> None:
-    """A record's second word is 0, and no coordinate is a NaN: its bits but the sign are above those of infinity."""
-    check_column(words[1::6], bool, wrong, f"the second word of a record is not 0; {AGAIN}")
-    for column in range(2, 6):
-        check_column(words[column::6], is_nan, wrong, f"a coordinate is not a number, which flatlist never writes; {AGAIN}")
+    """No coordinate is a NaN, or the first column's first that is one is told by its row."""
+    for place in range(2, 6):
+        column = words[place::6]
+        if any(map(is_nan, column)):
+            raise wrong(list(map(is_nan, column)).index(True),
+                        f"a coordinate is not a number, which flatlist never writes; {AGAIN}")
 
 
 def is_nan(bits: int) -> bool:
+    """Its bits but the sign are above those of infinity."""
     return bits & 0x7fffffff > 0x7f800000
-
-
-def check_column(column: "array[int]", is_wrong: Callable[[int], bool], wrong: Callable[[int, str], Wrong],
-                 why: str) -> None:
-    """Nothing in the column is wrong, or the first that is, is told by its row."""
-    if any(map(is_wrong, column)):
-        raise wrong([is_wrong(word) for word in column].index(True), why)
 
 
 def box_of(name: str, number: int, row: bytes) -> Tuple[int, ...]:

@@ -55,8 +55,8 @@ def f32(x):
     return struct.unpack("<f", struct.pack("<f", x))[0]
 
 
-def record(path, *coordinates):
-    return " ".join([f"{path:08x}", "00000000", *map(word, coordinates)])
+def record(path, *coordinates, tag=0):
+    return " ".join([f"{path:08x}", f"{tag:08x}", *map(word, coordinates)])
 
 
 def listed(records, *boxes):

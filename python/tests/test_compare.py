@@ -5,7 +5,8 @@ import unittest
 from html.parser import HTMLParser
 
 import browser
-from support import SOCKET_LINES, SOCKET_SHEET, TRIANGLE_SHEET, hinth, holds, in_folder, packed, same, triangle
+from support import SOCKET_LINES, SOCKET_SHEET, TRIANGLE_SHEET, hinth, holds, in_folder, listed, packed, record, same, \
+    triangle
 
 TRIANGLE = TRIANGLE_SHEET.read_text()
 VOID = {"meta", "br", "img", "input", "link"}
@@ -151,6 +152,32 @@ class Page(unittest.TestCase):
         hinth("flatten", "--binary", SOCKET_SHEET, "-o", new / "b.list")
         result = hinth("compare", old, new, "-o", "-")
         same((result.status, [card["kind"] for card in Cards(result.out.decode()).cards]), (0, ["the same"] * 2))
+
+    @in_folder
+    def test_a_list_that_tells_no_tags_is_the_same_drawing(self, folder):
+        """As lists were before lines told their tags."""
+        old, new = folder / "old", folder / "new"
+        for place in (old, new):
+            place.mkdir()
+        untold = re.sub("^([0-9a-f]{8}) [0-9a-f]{8}", r"\1 00000000", SOCKET_LINES.read_text(), flags=re.M)
+        (old / "a.lines").write_text(untold)
+        (new / "a.sheet").write_text(SOCKET_SHEET.read_text())
+        result = hinth("compare", old, new, "-o", "-")
+        same((result.status, [card["kind"] for card in Cards(result.out.decode()).cards]), (0, ["the same"]))
+        titles = re.findall("<title>((?:first|second)[^<]*)</title>", result.out.decode())
+        same((len(titles), titles[:3]), (16, ["first, path 0, tag not told: in both", "first, path 1, tag not told: in both",
+                                              "second, path 0, tag 2: in both"]))
+
+    @in_folder
+    def test_the_drawings_of_a_page_share_the_elements_that_it_may_have(self, folder):
+        """One pair of 6,000 tags each can have them, and two cannot."""
+        steps = listed([record(0, i, i % 7, i + 1, (i + 1) % 7, tag=2 + i) for i in range(6000)])
+        told = []
+        for name in ("a.lines", "b.lines"):
+            (folder / name).write_text(steps)
+            told.append(hinth("compare", folder, folder, "-o", "-").out.decode().count(": in both</title>"))
+        same(told[0], 12_000)
+        assert told[1] < 40, told
 
     @in_folder
     def test_folders_that_are_none(self, folder):

@@ -8,9 +8,11 @@ import struct
 import tempfile
 import unittest
 import xml.etree.ElementTree as ET
+from collections import Counter
 from pathlib import Path
 
-from support import EMPTY_BOX, ROOT, f32, hinth, holds, listed, record, same
+import browser
+from support import EMPTY_BOX, ROOT, f32, hinth, holds, in_folder, listed, record, same
 
 SVG = "{http://www.w3.org/2000/svg}"
 INFINITY = math.inf
@@ -27,9 +29,18 @@ class Picture:
         return self.picture.find(f"{SVG}g[@id='drawing']").findall(f".//{SVG}{kind}")
 
     def groups(self):
-        """The groups of lines, each with its title."""
-        groups = self.picture.find(f"{SVG}g[@id='drawing']").findall(f"{SVG}g")
-        return [group for group in groups if group.find(f"{SVG}title") is not None]
+        """The groups of lines."""
+        return self.picture.find(f"{SVG}g[@id='drawing']").findall(f"{SVG}g[@class='lines']")
+
+    def told(self):
+        """Of each element of lines its title, its colour, its width, and how many lines it has."""
+        return [(path.find(f"{SVG}title").text, group.get("stroke"), float(group.get("stroke-width")),
+                 sum(len(places_in(chain)) - 1 for chain in path.get("d").split("M")[1:]))
+                for group in self.groups() for path in group.findall(f"{SVG}path")]
+
+    def words(self):
+        """All that is written around the drawing."""
+        return [text.text for text in self.picture.iter(f"{SVG}text")]
 
     def chains(self):
         ways = [path.get("d") for group in self.groups() for path in group.findall(f"{SVG}path")]
@@ -85,7 +96,8 @@ def draw(*lists, options=()):
 
 
 A, B, C = (0, 0), (3, 0), (0, 6)
-SIDES = [record(0, *A, *B), record(0, *B, *C), record(0, *C, *A)]
+SIDES = [record(0, *A, *B, tag=2), record(0, *B, *C, tag=3), record(0, *C, *A, tag=4)]
+CURVE = [record(0, *A, *B, tag=2), record(0, *B, *C, tag=2), record(0, *C, *A, tag=2)]  # the same, drawn by one tag
 BOX = "box 0 0 3 6 0 0"
 TRIANGLE = listed(SIDES, BOX)
 
@@ -189,13 +201,14 @@ class OneList(unittest.TestCase):
 
 
 def rounds(count):
-    """Closed outlines of 100 lines each."""
+    """Closed outlines of 100 lines each, a tag a line."""
     records, boxes = [], []
     for path in range(count):
         x, y = 40 * (path % 50) + 20, 40 * (path // 50) + 20
         turns = [math.tau * i / 100 for i in range(100)]
         places = [(x + 15 * math.cos(turn), y + 15 * math.sin(turn)) for turn in turns]
-        records += [record(path, *start, *end) for start, end in zip(places, places[1:] + places[:1])]
+        records += [record(path, *start, *end, tag=2 + 101 * path + number)
+                    for number, (start, end) in enumerate(zip(places, places[1:] + places[:1]))]
         boxes.append(f"box {x - 15} {y - 15} {x + 15} {y + 15} 0 0")
     return listed(records, *boxes)
 
@@ -204,15 +217,16 @@ class Chains(unittest.TestCase):
     """How lines become chains."""
 
     def test_a_chain_is_one_path(self):
-        result = draw(TRIANGLE)
+        result = draw(listed(CURVE))
         same([group.findall(f"{SVG}path")[0].get("d") for group in result.groups()], ["M0 0 384 0 0 768 0 0"])
-        same([len(chain) for chain in draw(listed([*SIDES[:2], record(0, 1, 1, 2, 2)])).chains()], [3, 2])
+        same([len(chain) for chain in draw(listed([*CURVE[:2], record(0, 1, 1, 2, 2, tag=2)])).chains()], [3, 2])
 
     def test_the_side_of_a_stroke_that_runs_backward_is_one_chain(self):
-        same(draw(listed(SIDES[::-1])).chains(), [[(0, 0), (384, 0), (0, 768), (0, 0)]])
+        same(draw(listed(CURVE[::-1])).chains(), [[(0, 0), (384, 0), (0, 768), (0, 0)]])
 
-    def test_a_chain_ends_with_its_path(self):
-        same([len(chain) for chain in draw(listed([SIDES[0], record(1, *B, *C)])).chains()], [2, 2])
+    def test_a_chain_ends_with_its_path_and_with_its_tag(self):
+        same([len(chain) for chain in draw(listed([CURVE[0], record(1, *B, *C, tag=2)])).chains()], [2, 2])
+        same(draw(TRIANGLE).chains(), [[(0, 0), (384, 0)], [(384, 0), (0, 768)], [(0, 768), (0, 0)]])
 
     def test_a_long_chain_is_cut_and_goes_on_where_it_was_cut(self):
         steps = [record(0, i, i % 2, i + 1, (i + 1) % 2) for i in range(2500)]
@@ -245,6 +259,130 @@ class Chains(unittest.TestCase):
         result = draw(listed(apart))
         same((result.rings(), "".join(result.marks("dots")).count("M")), ([], 10_002))
         same(len(draw(listed(apart[:5000])).rings()), 10_000)
+
+
+class Tags(unittest.TestCase):
+    """Which tag drew a line."""
+
+    def test_every_line_tells_its_path_and_tag(self):
+        same([(title, n) for title, _, _, n in draw(TRIANGLE).told()],
+             [("path 0, tag 2", 1), ("path 0, tag 3", 1), ("path 0, tag 4", 1)])
+        same([(title, n) for title, _, _, n in run_draw("samples/triangle.sheet").told()],
+             [("path 0, tag 2", 1), ("path 0, tag 3", 1), ("path 0, tag 4", 1)])
+        apart = [record(0, i, 0, i, 1, tag=2) for i in range(3)]
+        same([(title, n) for title, _, _, n in draw(listed(apart)).told()], [("path 0, tag 2", 3)])
+
+    def test_any_second_word_is_read(self):
+        for tag in (1, 2**31, 2**32 - 1):
+            same([title for title, *_ in draw(listed([record(5, *A, *B, tag=tag)])).told()], [f"path 5, tag {tag}"])
+
+    def test_the_sample_tells_the_lines_of_each_of_its_segments(self):
+        rows = [row.split()[:2] for row in (ROOT / "samples/socket.lines").read_text().split("\n")[1:113]]
+        expected = Counter(f"path {int(path, 16)}, tag {int(tag, 16)}" for path, tag in rows)
+        same(Counter(tag for _, tag in rows)["00000002"], 1)
+        told = run_draw("samples/socket.sheet").told()
+        same({title: n for title, _, _, n in told}, dict(expected))
+        same(len(told), len(expected))
+
+    def test_a_list_of_an_older_version_tells_no_tag(self):
+        old = [record(0, *A, *B), record(0, *B, *C), record(0, *C, *A)]
+        same([(title, n) for title, _, _, n in draw(listed(old, BOX)).told()], [("path 0, tag not told", 3)])
+        for tag in ("0", "2"):
+            words = f"tag {tag} drew no line; of 3 lines the list does not tell the tag: flatten the sheet again"
+            result = draw(listed(old, BOX), options=["--tag", tag])
+            holds(result.said, f"a.lines: {words}\n")
+            holds(result.words(), words)
+
+    def test_as_many_tags_as_can_be_opened_have_an_element_each(self):
+        steps = [record(0, i % 200, i // 200, (i + 1) % 200, (i + 1) // 200, tag=2 + i) for i in range(20_001)]
+        told = draw(listed(steps[:20_000])).told()
+        same((len(told), told[-1][0], told[-1][3]), (20_000, "path 0, tag 20001", 1))
+        told = draw(listed(steps)).told()
+        same(sum(n for *_, n in told), 20_001)
+        same([title for title, *_ in told][:2], ["path 0, tags 2 to 1001", "path 0, tags 1002 to 2001"])
+        assert len(told) < 25, told
+
+    def test_of_two_large_lists_neighbours_share_their_words(self):
+        told = draw(rounds(150), rounds(150)).told()
+        same(sum(n for *_, n in told), 30_000)
+        same({title.split(", ")[0] for title, *_ in told}, {"first", "second"})
+        holds([title for title, *_ in told], "first, paths 0 to 8, tags 2 to 909: in both")
+
+    def test_a_tag_that_is_asked_for_is_strong_and_all_others_are_pale(self):
+        plain = {title: (colour, width) for title, colour, width, _ in draw(TRIANGLE).told()}
+        result = draw(TRIANGLE, options=["--tag", "3"])
+        same(result.status, 0)
+        told = {title: (colour, width) for title, colour, width, _ in result.told()}
+        same(list(told), ["path 0, tag 2", "path 0, tag 4", "path 0, tag 3"])  # the strong one lies over the others
+        same(told["path 0, tag 3"][0], plain["path 0, tag 3"][0])
+        assert told["path 0, tag 3"][1] > 2 * plain["path 0, tag 3"][1], told
+        for other in ("path 0, tag 2", "path 0, tag 4"):
+            same(told[other][1], plain[other][1])
+            assert lightness(told[other][0]) > lightness(plain[other][0]) + 60, told
+        holds(result.said, "a.lines: tag 3 drew 1 line\n")
+        holds(result.words(), "tag 3 drew 1 line")
+        holds(result.words(), "pale: a line of another tag")
+        assert "tag" not in " ".join(draw(TRIANGLE).words() + [draw(TRIANGLE).said])
+
+    def test_all_lines_of_a_strokes_tag_are_strong(self):
+        result = run_draw("--tag", "17", "samples/socket.sheet")
+        strong = [(title, n) for title, _, width, n in result.told() if width > 2]
+        rows = (ROOT / "samples/socket.lines").read_text().split("\n")
+        same(strong, [("path 1, tag 17", sum(row[9:17] == "00000011" for row in rows))])
+        holds(result.said, f"tag 17 drew {strong[0][1]} lines\n")
+
+    def test_a_tag_that_drew_nothing_leaves_all_pale_and_is_told(self):
+        for tag in ("0", "5", "4294967295"):
+            result = draw(TRIANGLE, options=["--tag", tag])
+            same((result.status, {width for _, _, width, _ in result.told()}, len(result.lines())), (0, {2.0}, 3))
+            assert all(lightness(colour) > 100 for _, colour, _, _ in result.told()), result.told()
+            holds(result.said, f"a.lines: tag {tag} drew no line\n")
+            holds(result.words(), f"tag {tag} drew no line")
+
+    def test_a_tag_of_two_lists_is_told_of_each(self):
+        other = [record(0, *A, *B, tag=3), record(0, *B, 1, 1, tag=3), record(0, 1, 1, *A, tag=4)]
+        result = draw(TRIANGLE, listed(other, BOX), options=["--tag", "3"])
+        holds(result.said, "a.lines: tag 3 drew 1 line\n")
+        holds(result.said, "b.lines: tag 3 drew 2 lines\n")
+        for words in ("first, tag 3 drew 1 line", "second, tag 3 drew 2 lines"):
+            holds(result.words(), words)
+        told = result.told()
+        strong = {(title, colour, width) for title, colour, width, _ in told[-3:]}
+        same(strong, {("first, path 0, tag 3: only in the first", "#0072b2", 6.0),
+                      ("second, path 0, tag 3: in both", "#b85c00", 3.0),
+                      ("second, path 0, tag 3: only in the second", "#b85c00", 3.0)})
+        same(len(told), 6)
+        assert all(lightness(colour) > 120 for _, colour, _, _ in told[:3]), told
+
+    def test_a_tag_of_a_large_list_is_found_among_those_that_share_their_words(self):
+        told = draw(rounds(250), options=["--tag", "10203"]).told()
+        same([(title, n) for title, _, width, n in told if width > 2], [("path 101, tag 10203", 1)])
+        same(sum(n for *_, n in told), 25_000)
+
+    def test_a_bad_tag_is_told_in_a_sentence(self):
+        for tag in ("-1", "x", "1.5", "", "4294967296", "0x2", "1_0", "\u0663"):
+            result = run_draw("--tag", tag, "samples/triangle.sheet")
+            same((tag, result.status, result.out, result.said.count("\n")), (tag, 2, b"", 1))
+            holds(result.said, "argument --tag: invalid tag number value: ")
+
+    def test_arrows_do_not_grow_with_the_tags(self):
+        same(draw(TRIANGLE, options=["--arrows"]).heads(), draw(listed(CURVE, BOX), options=["--arrows"]).heads())
+
+    @unittest.skipUnless(browser.PROGRAM, "there is no Chromium, so no line was pointed at in a browser")
+    @in_folder
+    def test_a_browser_finds_the_tag_at_the_pointer(self, folder):
+        """In the middle of each side, where an arrow stands too; the drawing lies 30 and 80 from the picture's corner."""
+        same(run_draw("--arrows", "samples/triangle.sheet", "-o", folder / "a.svg").status, 0)
+        title = "[[192, 0], [192, 384], [0, 384]].map(([x, y]) => document.elementFromPoint(x + 30, y + 80)" \
+                ".querySelector('title').textContent)"
+        with browser.Browser() as shown:
+            shown.open(folder / "a.svg")
+            same(shown.value(title), ["path 0, tag 2", "path 0, tag 3", "path 0, tag 4"])
+
+
+def lightness(colour):
+    """How light a colour is: 0 is black and 255 white."""
+    return sum(int(colour[i:i + 2], 16) for i in (1, 3, 5)) / 3
 
 
 def square(path, low, high, turned=False):
@@ -378,13 +516,21 @@ class TwoLists(unittest.TestCase):
         holds(result.said, "hinth: boxes differ at path 0\n")
 
     def test_lines_that_one_list_has_are_drawn_apart(self):
-        result = draw(TRIANGLE, listed([*SIDES[:2], record(0, *C, 1, 1)], BOX))
-        told = {(group.get("stroke"), group.find(f"{SVG}title").text): group for group in result.groups()}
-        told = {key: sum(len(places_in(chain)) - 1 for path in group.findall(f"{SVG}path")
-                         for chain in path.get("d").split("M")[1:]) for key, group in told.items()}
-        same(len(told), 4)
-        same(sorted((title, n) for (_, title), n in told.items()),
-             [("in both", 2), ("in both", 2), ("only in the first", 1), ("only in the second", 1)])
+        told = draw(TRIANGLE, listed([*SIDES[:2], record(0, *C, 1, 1, tag=4)], BOX)).told()
+        same([(title, n) for title, _, _, n in told],
+             [("first, path 0, tag 2: in both", 1), ("first, path 0, tag 3: in both", 1),
+              ("first, path 0, tag 4: only in the first", 1),
+              ("second, path 0, tag 2: in both", 1), ("second, path 0, tag 3: in both", 1),
+              ("second, path 0, tag 4: only in the second", 1)])
+        same(len({(colour, width) for _, colour, width, _ in told}), 4)
+
+    def test_tags_do_not_tell_two_lines_apart(self):
+        """Lists of an older version have 0 there, and a segment that is put in before moves all tags behind it."""
+        for tags in ((0, 0, 0), (7, 8, 9)):
+            others = [" ".join([side[:8], f"{tag:08x}", side[18:]]) for tag, side in zip(tags, SIDES)]
+            result = draw(TRIANGLE, listed(others, BOX))
+            holds(result.said, "hinth: 3 lines in both, 0 only in the first, 0 only in the second\n")
+            same([n for *_, n in result.told()], [1, 1, 1, *([1, 1, 1] if any(tags) else [3])])
 
     def test_order_does_not_count_but_direction_does(self):
         holds(draw(TRIANGLE, listed(SIDES[::-1], BOX)).said, "3 lines in both, 0 only in the first, 0 only in the second\n")
@@ -468,7 +614,6 @@ class NotDrawn(unittest.TestCase):
         refuses(listed([SIDES[1] + " "]), "a.lines:2: neither a record")
         refuses(listed([SIDES[1] + BOX]), "a.lines:2: neither a record")
         refuses(listed(["\xe9" * 53]), "a.lines:2: neither a record")
-        refuses(listed([SIDES[0].replace("00000000 00000000", "00000000 00000001", 1)]), "a.lines:2: the second word")
         refuses(listed([record(0, *A, math.nan, 0)]), "a.lines:2: a coordinate is not a number")
         refuses(listed(SIDES, "box 0 0 3 6 0"), "a.lines:5: neither")
         refuses(listed(SIDES, "box 3 0 0 6 0 0"), "a.lines:5: a box's corners are out of order")

@@ -13,9 +13,9 @@ from support import EMPTY_BOX, PACKAGE, ROOT, SOCKET_LINES, SOCKET_SHEET, TRIANG
 
 TRIANGLE = TRIANGLE_SHEET.read_text()
 ANSWER = b"""lines 3
-00000000 00000000 00000000 00000000 40400000 00000000
-00000000 00000000 40400000 00000000 00000000 40c00000
-00000000 00000000 00000000 40c00000 00000000 00000000
+00000000 00000002 00000000 00000000 40400000 00000000
+00000000 00000003 40400000 00000000 00000000 40c00000
+00000000 00000004 00000000 40c00000 00000000 00000000
 box 0 0 3 6 0 0
 """
 
@@ -38,7 +38,8 @@ def lists_of(triangles):
     """Its answer."""
     rows = [f"lines {3 * triangles}\n"]
     for path in range(triangles):
-        rows += [row.replace("00000000", f"{path:08x}", 1) + "\n" for row in ANSWER.decode().split("\n")[1:4]]
+        rows += [f"{path:08x} {2 + 4 * path + line:08x}{row[17:]}\n"
+                 for line, row in enumerate(ANSWER.decode().split("\n")[1:4])]
     return "".join(rows + ["box 0 0 3 6 0 0\n"] * triangles).encode()
 
 

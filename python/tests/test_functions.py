@@ -55,7 +55,7 @@ def refused(function, *arguments):
 
 
 TRIANGLE = TRIANGLE_SHEET.read_text()
-RECORDS = [0, 0, 0, 0, 0x40400000, 0, 0, 0, 0x40400000, 0, 0, 0x40c00000, 0, 0, 0, 0x40c00000, 0, 0]
+RECORDS = [0, 2, 0, 0, 0x40400000, 0, 0, 3, 0x40400000, 0, 0, 0x40c00000, 0, 4, 0, 0x40c00000, 0, 0]
 
 
 class Calls(unittest.TestCase):

@@ -16,7 +16,8 @@
 //! assert_eq!(scan(&scene, layout.tag_base, &mut prefixes), Ok(1));
 //! let (mut boxes, mut lines) = ([PathBox::EMPTY], [0; 6]);
 //! assert_eq!(flatten(layout, &scene, &prefixes, &mut boxes, &mut lines), Ok(1));
-//! assert_eq!(lines, [0, 0, 0, 0, 3.0f32.to_bits(), 6.0f32.to_bits()]);
+//! // of path 0, drawn by tag 2, from (0, 0) to (3, 6)
+//! assert_eq!(lines, [0, 2, 0, 0, 3.0f32.to_bits(), 6.0f32.to_bits()]);
 //! assert_eq!(boxes, [PathBox { x0: 0, y0: 0, x1: 3, y1: 6, draw_flags: 0, trans_ix: 0 }]);
 //! ```
 
@@ -103,7 +104,7 @@ pub fn scan(scene: &[u32], tag_base: u32, prefixes: &mut [u32]) -> Result<usize,
     if number == 0 { Ok(count as usize) } else { Err(Refusal { number, end: None, tag: 0, lines: 0 }) }
 }
 
-/// Stores the lines of the scene, six words each, widens the boxes of its paths, and returns how many lines. Words
+/// Stores the lines of the scene, six words each (path, the tag that drew it, x and y of its two ends), widens the boxes of its paths, and returns how many lines. Words
 /// behind the last line stay, also at a refusal.
 pub fn flatten(
     layout: Layout,

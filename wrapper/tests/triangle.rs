@@ -6,7 +6,8 @@ use std::collections::BTreeMap;
 const LAYOUT: Layout = Layout { n_wg: 1, tag_base: 0, data_base: 64, transform_base: 68, style_base: 74 };
 const THREE: u32 = 0x40400000;
 const SIX: u32 = 0x40c00000;
-const SIDES: [[u32; 6]; 3] = [[0, 0, 0, 0, THREE, 0], [0, 0, THREE, 0, 0, SIX], [0, 0, 0, SIX, 0, 0]];
+/// Drawn by tags 2, 3 and 4.
+const SIDES: [[u32; 6]; 3] = [[0, 2, 0, 0, THREE, 0], [0, 3, THREE, 0, 0, SIX], [0, 4, 0, SIX, 0, 0]];
 const MARK: u32 = 0xa5a5a5a5;
 
 /// A transform, a style, two lines, a line that ends the subpath, and a path.

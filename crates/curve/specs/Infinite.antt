@@ -19,7 +19,7 @@ use Rattle.spiral.specs.Points.{identity-not-finite}
 use Rattle.spiral.specs.Util.{hasNan, applyOf}
 use Rattle.spiral.specs.declared.util.Vec2.{Vec2}
 use Rattle.drawing.specs.Cubic.{point}
-use Rattle.drawing.specs.Sheet.{Event, line, noCount, noJoin, lineThrough, Sheet, sheet, recordOf, boxWith, hasRoom, stored, drawOn, draw, drawAll, isStopped}
+use Rattle.drawing.specs.Sheet.{Event, line, noCount, noJoin, lineThrough, Sheet, sheet, recordOf, penBehind, hasRoom, stored, drawOn, draw, drawAll, isStopped}
 use Rattle.drawing.specs.SheetLaws.{absorbs}
 use Rattle.drawing.specs.declared.line.Pen.{Pen}
 use Rattle.drawing.specs.declared.line.Drawn.{Drawn}
@@ -145,8 +145,8 @@ module _ (path : ℕ) where
   line-refused ws pen p q es false false false h r = stopped ws (Stopped NoRoom (pen .count)) es refl (no-room (pen .count) h)
   line-refused ws pen p q es false false true h (inl e) = let z : _≡_ {A = ℕ} 0 1 = cc in absurd (omega arith)
   line-refused ws pen p q es false false true h (inr rest) =
-      let ws' = sets ws (pen .count * 6) (recordOf path p q) in
-      as-before ws ws' (length-sets ws (pen .count * 6) (recordOf path p q)) (rest ws' (record { count = pen .count + 1; bbox = boxWith (boxWith (pen .bbox) p) q }))
+      let ws' = sets ws (pen .count * 6) (recordOf path (pen .tag) p q) in
+      as-before ws ws' (length-sets ws (pen .count * 6) (recordOf path (pen .tag) p q)) (rest ws' (penBehind pen p q))
 
   spoilt-refused : {es : List Event} → Spoilt es → (ws : List ℕ) (pen : Pen) → Refused ws (drawAll path (sheet ws (On pen)) es .drawn)
   unfolding drawAll draw drawOn isStopped

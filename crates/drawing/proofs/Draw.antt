@@ -39,8 +39,8 @@ other-than-on (Stopped why n) k = refl
 next : (n k : ℕ) → n + suc k ≡ suc (n + k)
 next n k = omega arith
 
-pub six-words : (ws : List ℕ) (at path : ℕ) (p q : Vec2) {a b c d : ℕ} → a ≡ toBits binary32 (p .x) → b ≡ toBits binary32 (p .y) → c ≡ toBits binary32 (q .x) → d ≡ toBits binary32 (q .y) → set (set (set (set (set (set ws at path) (at + 1) 0) (at + 2) a) (at + 3) b) (at + 4) c) (at + 5) d ≡ sets ws at (recordOf path p q)
-six-words ws at path p q e f g h = rw (e, f, g, h, next at 4, next at 3, next at 2, next at 1, add-one at)
+pub six-words : (ws : List ℕ) (at path tag : ℕ) (p q : Vec2) {a b c d : ℕ} → a ≡ toBits binary32 (p .x) → b ≡ toBits binary32 (p .y) → c ≡ toBits binary32 (q .x) → d ≡ toBits binary32 (q .y) → set (set (set (set (set (set ws at path) (at + 1) tag) (at + 2) a) (at + 3) b) (at + 4) c) (at + 5) d ≡ sets ws at (recordOf path tag p q)
+six-words ws at path tag p q e f g h = rw (e, f, g, h, next at 4, next at 3, next at 2, next at 1, add-one at)
 
 -- ---- one event
 and-right : (a b : Bool) → b ≡ false → a && b ≡ false
@@ -72,7 +72,7 @@ module _ {path : ℕ} {ws : List ℕ} {ink : Drawn} {pen : Pen} {p q : Vec2} (on
   unfolding drawAll draw drawOn stored
   full h i k = drew (rw (on, h, i, k))
 
-  pub goes-on : {ws' : List ℕ} {b : IntBbox} → hasNan p ≡ false → hasNan q ≡ false → hasRoom ws (pen .count) ≡ true → ws' ≡ sets ws (pen .count * 6) (recordOf path p q) → b ≡ boxWith (boxWith (pen .bbox) p) q → Drew path ws ink (line p q ∷ []) ws' (On (record { count = pen .count + 1; bbox = b }))
+  pub goes-on : {ws' : List ℕ} {b : IntBbox} → hasNan p ≡ false → hasNan q ≡ false → hasRoom ws (pen .count) ≡ true → ws' ≡ sets ws (pen .count * 6) (recordOf path (pen .tag) p q) → b ≡ boxWith (boxWith (pen .bbox) p) q → Drew path ws ink (line p q ∷ []) ws' (On (record { count = pen .count + 1; tag = pen .tag; bbox = b }))
   unfolding drawAll draw drawOn stored
   goes-on h i k w e = drew (rw (on, h, i, k, w, e))
 

@@ -63,13 +63,17 @@ pub record Sheet : Type 0 where
 abbrev pub sheet : List ℕ → Drawn → Sheet
 sheet ws d = record { words = ws; drawn = d }
 
--- the six words of a line
-abbrev pub recordOf : ℕ → Vec2 → Vec2 → List ℕ
-recordOf path p q = path ∷ 0 ∷ toBits binary32 (p .x) ∷ toBits binary32 (p .y) ∷ toBits binary32 (q .x) ∷ toBits binary32 (q .y) ∷ []
+-- the six words of a line: its path, the tag that drew it, its two points
+abbrev pub recordOf : ℕ → ℕ → Vec2 → Vec2 → List ℕ
+recordOf path tag p q = path ∷ tag ∷ toBits binary32 (p .x) ∷ toBits binary32 (p .y) ∷ toBits binary32 (q .x) ∷ toBits binary32 (q .y) ∷ []
 
 -- one more line has room, and does not make the count 4,294,967,296
 unfoldable pub hasRoom : List ℕ → ℕ → Bool
 hasRoom ws n = ltb n 4294967295 && ltb n (length ws / 6)
+
+-- the pen behind a line: one line more, and the box with its points
+abbrev pub penBehind : Pen → Vec2 → Vec2 → Pen
+penBehind pen p q = record { count = pen .count + 1; tag = pen .tag; bbox = boxWith (boxWith (pen .bbox) p) q }
 
 -- a line at the pen: whether its start has a NaN, then whether its end has, then whether it has room
 unfoldable pub stored : Bool → Bool → Bool → ℕ → List ℕ → Pen → Vec2 → Vec2 → Sheet
@@ -77,7 +81,7 @@ stored true end room path ws pen p q = sheet ws (Stopped (NotNumber Start) (pen 
 stored false true room path ws pen p q = sheet ws (Stopped (NotNumber End) (pen .count))
 stored false false false path ws pen p q = sheet ws (Stopped NoRoom (pen .count))
 stored false false true path ws pen p q =
-    sheet (sets ws (pen .count * 6) (recordOf path p q)) (On (record { count = pen .count + 1; bbox = boxWith (boxWith (pen .bbox) p) q }))
+    sheet (sets ws (pen .count * 6) (recordOf path (pen .tag) p q)) (On (penBehind pen p q))
 
 unfoldable pub drawOn : ℕ → List ℕ → Pen → Event → Sheet
 drawOn path ws pen (line p q) = stored (hasNan p) (hasNan q) (hasRoom ws (pen .count)) path ws pen p q
@@ -104,17 +108,18 @@ unfoldable pub isStopped : Drawn → Bool
 isStopped (On pen) = false
 isStopped (Stopped why n) = true
 
--- in numbers: 0 or the refusal's, the end that is no number, the lines stored, the box of an answer that is no refusal, and the lent words
+-- in numbers: 0 or the refusal's, the end that is no number, the lines stored, the tag and the box of an answer that is no refusal, and the lent words
 pub record Told : Type 0 where
   pub number : ℕ
   pub end : ℕ
   pub count : ℕ
+  pub tag : ℕ
   pub box : List IntBbox
   pub words : List ℕ
 
 unfoldable pub told : List ℕ → Drawn → Told
-told ws (On pen) = record { number = 0; end = 0; count = pen .count; box = pen .bbox ∷ []; words = ws }
-told ws (Stopped why n) = record { number = numberOf why; end = endOf why; count = n; box = []; words = ws }
+told ws (On pen) = record { number = 0; end = 0; count = pen .count; tag = pen .tag; box = pen .bbox ∷ []; words = ws }
+told ws (Stopped why n) = record { number = numberOf why; end = endOf why; count = n; tag = 0; box = []; words = ws }
 
 abbrev pub toldOf : Sheet → Told
 toldOf s = told (s .words) (s .drawn)

@@ -18,12 +18,12 @@ use Rattle.drawing.specs.declared.line.Drawn.{Drawn}
 use Rattle.drawing.specs.declared.line.Drawn.the-variants.{On, Stopped}
 
 -- ---- what is told determines the answer
-answer : List IntBbox → ℕ → ℕ → ℕ → Drawn
-answer (b ∷ bs) number end n = On (record { count = n; bbox = b })
-answer [] number end n = Stopped (named number end) n
+answer : List IntBbox → ℕ → ℕ → ℕ → ℕ → Drawn
+answer (b ∷ bs) number end n tag = On (record { count = n; tag = tag; bbox = b })
+answer [] number end n tag = Stopped (named number end) n
 
 sheetIn : Told → Sheet
-sheetIn t = sheet (t .words) (answer (t .box) (t .number) (t .end) (t .count))
+sheetIn t = sheet (t .words) (answer (t .box) (t .number) (t .end) (t .count) (t .tag))
 
 back : (ws : List ℕ) (d : Drawn) → sheetIn (told ws d) ≡ sheet ws d
 unfolding sheetIn answer told
@@ -99,7 +99,7 @@ unfolding stored
 stored-length true t u path ws pen p q = refl
 stored-length false true u path ws pen p q = refl
 stored-length false false false path ws pen p q = refl
-stored-length false false true path ws pen p q = length-sets ws (pen .count * 6) (recordOf path p q)
+stored-length false false true path ws pen p q = length-sets ws (pen .count * 6) (recordOf path (pen .tag) p q)
 
 draw-length : (path : ℕ) (ws : List ℕ) (d : Drawn) (e : Event) → length ((draw path ws d e) .words) ≡ length ws
 unfolding draw drawOn

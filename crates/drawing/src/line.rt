@@ -17,9 +17,10 @@ pub struct IntBbox {
     pub y1: i32,
 }
 
-// How many lines are stored, and the box of those of the tag in turn.
+// How many lines are stored, the tag that draws, and the box of its lines.
 pub struct Pen {
     pub count: u32,
+    pub tag: u32,
     pub bbox: IntBbox,
 }
 
@@ -65,16 +66,16 @@ impl IntBbox {
     }
 }
 
-fn put(lines: &mut [u32], at: usize, path: u32, p0: Vec2, p1: Vec2)
+fn put(lines: &mut [u32], at: usize, path: u32, tag: u32, p0: Vec2, p1: Vec2)
     requires { ⌜ at + 5 < length (now lines) ⌝ }
-    ensures { λ r. ⌜ now (lines .exit) ≡ sets (now (lines .entry)) at (recordOf path p0 p1) ⌝ }
+    ensures { λ r. ⌜ now (lines .exit) ≡ sets (now (lines .entry)) at (recordOf path tag p0 p1) ⌝ }
 {
     let x0 = maths::word_of(p0.x);
     let y0 = maths::word_of(p0.y);
     let x1 = maths::word_of(p1.x);
     let y1 = maths::word_of(p1.y);
     lines[at] = path;
-    lines[at + 1] = 0;
+    lines[at + 1] = tag;
     lines[at + 2] = x0;
     lines[at + 3] = y0;
     lines[at + 4] = x1;
@@ -102,11 +103,13 @@ pub fn write_line(lines: &mut [u32], ink: Drawn, path: u32, p0: Vec2, p1: Vec2) 
     }
     let at = count as usize;
     if at < lines.len() / 6 {
-        put(lines, at * 6, path, p0, p1);
+        let tag = pen.tag;
+        put(lines, at * 6, path, tag, p0, p1);
         let b = pen.bbox;
         let bbox = b.add_pt(p0).add_pt(p1);
         Drawn::On(Pen {
             count: count + 1,
+            tag,
             bbox,
         })
     } else {

@@ -27,8 +27,9 @@ use Rattle.curve.specs.Curve.{lineOf, linesOf, rangeOf, rangeEnd, tipOf, isNear
 use Rattle.segment.specs.Segment.{fillEvents, shapeEvents}
 use Rattle.flatten.specs.Boxes.{freshBox, hasExtent, markedOf, mergedOf, changedOf, changedAt}
 use Rattle.flatten.specs.Tag.{_>>=_, boxed, headAt, shapeAt, eventsBy, eventsAt}
-use Rattle.flatten.specs.Step.{drawnOf, changeOf, turnOf, refusedAt, stepFrom, stepOf}
-use Rattle.flatten.specs.Call.{firstTurn, startOf, taken, onward, after, answerOf, said, toldOf, Outcome, outcome, callOf}
+use Rattle.flatten.specs.Step.{drawnOf, changeOf, turnOf, refusedAt, stepFromBy, stepBy}
+use Rattle.flatten.specs.Call.{firstTurn, startOf, taken, answerOf, said, toldOf, Outcome, outcome, callOf, afterBy, callBy, onwardBy}
+use Rattle.flatten.specs.Whose.{aside, setAside}
 use Rattle.flatten.specs.declared.boxes.PathBox.{PathBox}
 use Rattle.flatten.specs.declared.call.Layout.{Layout}
 
@@ -79,12 +80,12 @@ bases = record { «n_wg» = 1; «tag_base» = 0; «data_base» = 0x40; «transfo
 abbrev pub triangle : ℕ → List PathBox → ℕ → Outcome
 triangle first boxes room = callOf bases (sceneFrom first) (scanned first) boxes (replicate (room * 6) 0)
 
--- (0, 0) to (3, 0), to (0, 6), and back
-abbrev pub threeLines : List ℕ
-threeLines =
-    0 ∷ 0 ∷ 0x00000000 ∷ 0x00000000 ∷ 0x40400000 ∷ 0x00000000
-    ∷ 0 ∷ 0 ∷ 0x40400000 ∷ 0x00000000 ∷ 0x00000000 ∷ 0x40c00000
-    ∷ 0 ∷ 0 ∷ 0x00000000 ∷ 0x40c00000 ∷ 0x00000000 ∷ 0x00000000
+-- (0, 0) to (3, 0), to (0, 6), and back, with three second words
+abbrev pub threeLines : ℕ → ℕ → ℕ → List ℕ
+threeLines i j k =
+    0 ∷ i ∷ 0x00000000 ∷ 0x00000000 ∷ 0x40400000 ∷ 0x00000000
+    ∷ 0 ∷ j ∷ 0x40400000 ∷ 0x00000000 ∷ 0x00000000 ∷ 0x40c00000
+    ∷ 0 ∷ k ∷ 0x00000000 ∷ 0x40c00000 ∷ 0x00000000 ∷ 0x00000000
     ∷ []
 
 -- a fresh box, but that 7 and 9 stand behind
@@ -99,7 +100,7 @@ nothing base =
 abbrev boxAt : Float → IntBbox
 boxAt v = boxWith emptyBox (newOf v v)
 
--- ---- the table
+-- ---- the table; the second word of a record is set aside
 
 abbrev row : List Value → List Value → Row
 row g m = record { given = g; measured = m }
@@ -108,7 +109,7 @@ unfoldable pub table : List Row
 table =
     row (flatten (map (λ ix. offset (tagOf (sceneFrom 0x20) 0 (scanned 0x20) ix)) (2 ∷ 3 ∷ 4 ∷ []))) (nat 0 ∷ nat 1 ∷ nat 2 ∷ [])
     ∷ row (let o = triangle 0x20 (markedBox ∷ []) 2 in told o ++ flatten (map boxFields (o .boxes))) (nat 6 ∷ nat 4 ∷ nat 2 ∷ nat 0 ∷ nat 0 ∷ nat 3 ∷ nat 6 ∷ nat 7 ∷ nat 9 ∷ [])
-    ∷ row (let o = triangle 0x20 [] 3 in told o ++ map nat (o .lines)) (nat 4 ∷ nat 5 ∷ nat 3 ∷ map nat threeLines)
+    ∷ row (let o = triangle 0x20 [] 3 in told o ++ map nat (setAside o .lines)) (nat 4 ∷ nat 5 ∷ nat 3 ∷ map nat (threeLines 0 0 0))
     ∷ row (told (triangle 0x00 (freshBox ∷ []) 3)) (nat 2 ∷ nat 2 ∷ nat 0 ∷ [])
     ∷ row (told (nothing 0)) (nat 0 ∷ nat 0 ∷ nat 0 ∷ [])
     ∷ row (told (nothing 1)) (nat 1 ∷ nat 0 ∷ nat 0 ∷ [])
@@ -122,12 +123,12 @@ table =
 
 -- ---- an accepted call that draws
 
--- the triangle with a box and room, drawn: three lines, and their box
+-- the triangle with a box and room, drawn: three lines, which tags 2, 3 and 4 drew, and their box
 abbrev pub drawn : Outcome
-drawn = outcome (said 0 0 3) (record { x0 = pos 0; y0 = pos 0; x1 = pos 3; y1 = pos 6; «draw_flags» = 0; «trans_ix» = 0 } ∷ []) threeLines
+drawn = outcome (said 0 0 3) (record { x0 = pos 0; y0 = pos 0; x1 = pos 3; y1 = pos 6; «draw_flags» = 0; «trans_ix» = 0 } ∷ []) (threeLines 2 3 4)
 
 computed : (map (λ r. r .given) table ≡ map (λ r. r .measured) table) × (triangle 0x20 (freshBox ∷ []) 3 ≡ drawn)
-unfolding table flatten ofBits ofInt toBits toSigned toUnsigned round neg add sub mul div lt le eq isNan signOf signed absOf halfUnits halfFields halfOf before maxOf clampOf wholeOf floorOf ceilOf sqrtOf twoThirdsOf hypotOf trig.boundedOf trig.sinNear trig.cosNear trig.reducedOf trig.curveOf trig.waveOf trig.sinOf trig.cosOf trig.angleOf trig.atan2Of addOf subOf mulOf dotOf lengthOf lengthSquaredOf mixOf angleOf hasNan eqOf identityOf applyOf fittedError errorRatio longChord fromPointsDerivs fromAngles wordAt tagSums plus byteAt sumsBelow wordSums tagData prefixAt withPrefix tagIn tagOf sumsBefore prefixes filled scanOf i16Of i16Point pointWords pointAt lineCubic pointCount raised cubicOf reaches segmentOf floatsAt transformOf flagsOf lowerOf higherOf emptyBox boxWith hasRoom stored drawOn draw drawAll cubicPoint cubicDeriv cubicAt isShort firstTip tipAt paramsOf multiplierOf integrandOf robustOf nFracOf fitOf lineOf linesOf rangeOf rangeEnd tipOf isNear accepted walk isPoint sideEvents deviceSide eulerEvents fillEvents shapeEvents freshBox hasExtent markedOf mergedOf changedOf changedAt _>>=_ boxed headAt shapeAt eventsBy eventsAt drawnOf changeOf turnOf refusedAt stepFrom stepOf firstTurn startOf taken onward after answerOf numberOf endOf toldOf callOf
+unfolding table aside flatten ofBits ofInt toBits toSigned toUnsigned round neg add sub mul div lt le eq isNan signOf signed absOf halfUnits halfFields halfOf before maxOf clampOf wholeOf floorOf ceilOf sqrtOf twoThirdsOf hypotOf trig.boundedOf trig.sinNear trig.cosNear trig.reducedOf trig.curveOf trig.waveOf trig.sinOf trig.cosOf trig.angleOf trig.atan2Of addOf subOf mulOf dotOf lengthOf lengthSquaredOf mixOf angleOf hasNan eqOf identityOf applyOf fittedError errorRatio longChord fromPointsDerivs fromAngles wordAt tagSums plus byteAt sumsBelow wordSums tagData prefixAt withPrefix tagIn tagOf sumsBefore prefixes filled scanOf i16Of i16Point pointWords pointAt lineCubic pointCount raised cubicOf reaches segmentOf floatsAt transformOf flagsOf lowerOf higherOf emptyBox boxWith hasRoom stored drawOn draw drawAll cubicPoint cubicDeriv cubicAt isShort firstTip tipAt paramsOf multiplierOf integrandOf robustOf nFracOf fitOf lineOf linesOf rangeOf rangeEnd tipOf isNear accepted walk isPoint sideEvents deviceSide eulerEvents fillEvents shapeEvents freshBox hasExtent markedOf mergedOf changedOf changedAt _>>=_ boxed headAt shapeAt eventsBy eventsAt drawnOf changeOf turnOf refusedAt stepFromBy stepBy firstTurn startOf taken onwardBy afterBy answerOf numberOf endOf toldOf callBy
 computed = (refl, refl)
 
 -- ---- the two theorems

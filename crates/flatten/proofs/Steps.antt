@@ -11,7 +11,7 @@ use Rattle.drawing.specs.declared.line.IntBbox.{IntBbox}
 use Rattle.drawing.specs.declared.line.Pen.{Pen}
 use Rattle.drawing.specs.declared.line.Drawn.{Drawn}
 use Rattle.drawing.specs.declared.line.Drawn.the-variants.{On, Stopped}
-use Rattle.flatten.specs.Step.{drawnOf, freshPen, turnOf, refusedAt, stepped, behind}
+use Rattle.flatten.specs.Step.{drawnOf, freshPen, turnOf, refusedAt, stepped, behind, tagWord}
 use Rattle.flatten.specs.declared.call.Turn.{Turn}
 use Rattle.flatten.specs.declared.tag.Head.{Head}
 
@@ -19,9 +19,9 @@ pub drew-found : {path : ℕ} {pen : Pen} {ws ws' : List ℕ} {d : Drawn} {es : 
 unfolding drawnOf
 drew-found h = exact h
 
-pub went : (path : ℕ) (b : IntBbox) (ws ws' : List ℕ) (d : Drawn) (r : Read (List Event)) (t : Turn) (h : Head) → b ≡ emptyBox
-    → sheet ws' d ≡ drawnOf path (record { count = t .count; bbox = b }) ws r → stepped (turnOf t h d) ws' ≡ behind t h (drawnOf path (freshPen t) ws r)
-went path b ws ws' d r t h e k = ap (behind t h) (k ∙ ap (λ (b : IntBbox). drawnOf path (record { count = t .count; bbox = b }) ws r) e)
+pub went : (path word : ℕ) (b : IntBbox) (ws ws' : List ℕ) (d : Drawn) (r : Read (List Event)) (t : Turn) (h : Head) → word ≡ tagWord (t .tag) → b ≡ emptyBox
+    → sheet ws' d ≡ drawnOf path (record { count = t .count; tag = word; bbox = b }) ws r → stepped (turnOf t h d) ws' ≡ behind t h (drawnOf path (freshPen tagWord t) ws r)
+went path word b ws ws' d r t h f e k = ap (behind t h) (k ∙ (λ i. drawnOf path (record { count = t .count; tag = f i; bbox = e i }) ws r))
 
 -- fewer tags are left
 pub fewer : (r t : Turn) (h : Head) (d : Drawn) → r ≡ turnOf t h d → 0 < t .left → r .left < t .left

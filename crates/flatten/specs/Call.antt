@@ -8,7 +8,7 @@ use Rattle.refusals.specs.Refusals.{numberOf, endOf}
 use Rattle.refusals.specs.declared.Refusal.the-variants.{BadBase}
 use Rattle.drawing.specs.Sheet.{emptyBox}
 use Rattle.flatten.specs.Boxes.{changedAt}
-use Rattle.flatten.specs.Step.{Stepped, stepOf}
+use Rattle.flatten.specs.Step.{tagWord, noWord, Stepped, stepBy}
 use Rattle.flatten.specs.declared.boxes.PathBox.{PathBox}
 use Rattle.flatten.specs.declared.call.Layout.{Layout}
 use Rattle.flatten.specs.declared.call.Turn.{Turn}
@@ -44,16 +44,22 @@ unfoldable pub taken : List PathBox → Stepped → State
 taken ps o = record { turn = o .turn; boxes = changedAt ps (o .turn .at) (o .turn .change); lines = o .lines }
 
 -- where no tag is left, as behind a refusal, the state stays
-unfoldable pub onward : Bool → Layout → List ℕ → List ℕ → State → State
-onward true layout scene prefixes s = taken (s .boxes) (stepOf layout scene prefixes (s .lines) (length (s .boxes)) (s .turn))
-onward false layout scene prefixes s = s
+unfoldable pub onwardBy : (ℕ → ℕ) → Bool → Layout → List ℕ → List ℕ → State → State
+onwardBy word true layout scene prefixes s = taken (s .boxes) (stepBy word layout scene prefixes (s .lines) (length (s .boxes)) (s .turn))
+onwardBy word false layout scene prefixes s = s
+
+abbrev pub nextBy : (ℕ → ℕ) → Layout → List ℕ → List ℕ → State → State
+nextBy word layout scene prefixes s = onwardBy word (ltb 0 (s .turn .left)) layout scene prefixes s
+
+unfoldable pub afterBy : (ℕ → ℕ) → ℕ → Layout → List ℕ → List ℕ → State → State
+afterBy word zero layout scene prefixes s = s
+afterBy word (suc n) layout scene prefixes s = nextBy word layout scene prefixes (afterBy word n layout scene prefixes s)
 
 abbrev pub next : Layout → List ℕ → List ℕ → State → State
-next layout scene prefixes s = onward (ltb 0 (s .turn .left)) layout scene prefixes s
+next = nextBy tagWord
 
-unfoldable pub after : ℕ → Layout → List ℕ → List ℕ → State → State
-after zero layout scene prefixes s = s
-after (suc n) layout scene prefixes s = next layout scene prefixes (after n layout scene prefixes s)
+abbrev pub after : ℕ → Layout → List ℕ → List ℕ → State → State
+after = afterBy tagWord
 
 -- ---- the answer
 
@@ -92,9 +98,17 @@ outcome told ps ws = record { answer = told; boxes = ps; lines = ws }
 abbrev pub outcomeOf : State → Outcome
 outcomeOf s = outcome (toldOf (answerOf (s .turn))) (s .boxes) (s .lines)
 
-unfoldable pub callOf : Layout → List ℕ → List ℕ → List PathBox → List ℕ → Outcome
-callOf layout scene prefixes ps ws =
-    outcomeOf (after (layout .«n_wg» * 256) layout scene prefixes (record { turn = startOf layout (length scene); boxes = ps; lines = ws }))
+unfoldable pub callBy : (ℕ → ℕ) → Layout → List ℕ → List ℕ → List PathBox → List ℕ → Outcome
+callBy word layout scene prefixes ps ws =
+    outcomeOf (afterBy word (layout .«n_wg» * 256) layout scene prefixes (record { turn = startOf layout (length scene); boxes = ps; lines = ws }))
+
+-- this call, whose lines tell their tag
+abbrev pub callOf : Layout → List ℕ → List ℕ → List PathBox → List ℕ → Outcome
+callOf = callBy tagWord
+
+-- the call of the scope paper; `set-aside` says that it is the other one but for that word
+abbrev pub plainCallOf : Layout → List ℕ → List ℕ → List PathBox → List ℕ → Outcome
+plainCallOf = callBy noWord
 
 -- ---- the call with boxes of its own
 

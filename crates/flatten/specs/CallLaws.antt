@@ -9,7 +9,7 @@ use lib.ListN.{length}
 use Rattle.refusals.specs.Refusals.{numberOf, endOf}
 use Rattle.refusals.specs.declared.Refusal.the-variants.{BadBase}
 use Rattle.flatten.specs.Step.{stepOf}
-use Rattle.flatten.specs.Call.{firstTurn, startAt, startOf, State, taken, onward, next, after, answerOf, said, toldOf, outcome, outcomeOf, callOf}
+use Rattle.flatten.specs.Call.{firstTurn, startAt, startOf, State, taken, next, after, answerOf, said, toldOf, outcome, outcomeOf, callOf, afterBy, callBy, onwardBy}
 use Rattle.flatten.specs.declared.boxes.PathBox.{PathBox}
 use Rattle.flatten.specs.declared.call.Layout.{Layout}
 use Rattle.flatten.specs.declared.call.Turn.{Turn}
@@ -20,15 +20,15 @@ module _ (layout : Layout) (scene prefixes : List ℕ) where
   tag s = taken (s .boxes) (stepOf layout scene prefixes (s .lines) (length (s .boxes)) (s .turn))
 
   pub moves : (s : State) → ltb 0 (s .turn .left) ≡ true → next layout scene prefixes s ≡ tag s
-  unfolding onward
+  unfolding onwardBy
   moves s e = rw e
 
   pub at-rest : (s : State) → ltb 0 (s .turn .left) ≡ false → next layout scene prefixes s ≡ s
-  unfolding onward
+  unfolding onwardBy
   at-rest s e = rw e
 
   pub one-more : (n : ℕ) (s : State) → after (suc n) layout scene prefixes s ≡ next layout scene prefixes (after n layout scene prefixes s)
-  unfolding after
+  unfolding afterBy
   one-more n s = refl
 
   -- where no tag is left, more turns change nothing
@@ -44,7 +44,7 @@ module _ (layout : Layout) (scene prefixes : List ℕ) where
 
   -- what holds at the start, and after each tag if before it, holds at the end
   pub carried : (P : State → Type 0) → ((s : State) → ltb 0 (s .turn .left) ≡ true → P s → P (tag s)) → (n : ℕ) (s : State) → P s → P (after n layout scene prefixes s)
-  unfolding after
+  unfolding afterBy
   carried P go zero s p = p
   carried P go (suc n) s p =
       let t = after n layout scene prefixes s in
@@ -56,7 +56,7 @@ module _ (layout : Layout) (scene prefixes : List ℕ) where
 -- a base past the scene's end is refused, and nothing is written
 pub bad-base : (layout : Layout) (scene prefixes : List ℕ) (ps : List PathBox) (ws : List ℕ) → ltb (length scene) (layout .«tag_base») || ltb (length scene) (layout .«data_base») ≡ true
     → callOf layout scene prefixes ps ws ≡ outcome (said 1 0 0) ps ws
-unfolding startOf firstTurn answerOf toldOf numberOf endOf callOf after
+unfolding startOf firstTurn answerOf toldOf numberOf endOf callBy afterBy
 bad-base layout scene prefixes ps ws past =
     let t = startOf layout (length scene) in
     let none : t ≡ firstTurn 0 (stop.Refused BadBase) = ap (λ (b : Bool). startAt b layout) past in

@@ -6,3 +6,6 @@ pub mod CallLaws
 pub mod Only
 pub mod Stands
 pub mod Refusals
+pub mod Whose
+pub mod SetAside
+pub mod WhoseLaws

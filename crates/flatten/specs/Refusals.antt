@@ -22,8 +22,8 @@ use Rattle.scene.specs.declared.tags.PathTagData.{PathTagData}
 use Rattle.segment.specs.Segment.{neighborOf, shapeEvents}
 use Rattle.segment.specs.declared.Shape.the-variants.{Nothing, Fill, StartCap, Stroke}
 use Rattle.flatten.specs.Tag.{_>>=_, inside, tagAt, pointsAt, transformAt, isPath, boxed, headAt, neighborAt, strokeBy, strokeAt, isStroke, shapeAt, eventsBy, eventsAt}
-use Rattle.flatten.specs.Step.{drawnOf, freshPen, turnOf, refusedAt, behind, stepFrom, stepOf}
-use Rattle.flatten.specs.Call.{firstTurn, startAt, startOf, State, taken, after, answerFor, answerOf, toldOf, callOf}
+use Rattle.flatten.specs.Step.{drawnOf, freshPen, turnOf, refusedAt, behind, tagWord, stepFromBy, stepOf, stepBy}
+use Rattle.flatten.specs.Call.{firstTurn, startAt, startOf, State, taken, after, answerFor, answerOf, toldOf, callOf, callBy}
 use Rattle.flatten.specs.CallLaws.{carried}
 use Rattle.flatten.specs.Stands.{none, Stored, call-stands}
 use Rattle.flatten.specs.declared.boxes.PathBox.{PathBox}
@@ -127,24 +127,24 @@ unfolding NotBase turnOf answerOf toldOf
 turn-not-one t h (On pen) k = λ e. omega arith
 turn-not-one t h (Stopped why n) k = k
 
-drawing-not-one : (t : Turn) (h : Head) (ws : List ℕ) (path : ℕ) {r : Read (List Event)} → Early r → NotOne (behind t h (drawnOf path (freshPen t) ws r) .turn)
+drawing-not-one : (t : Turn) (h : Head) (ws : List ℕ) (path : ℕ) {r : Read (List Event)} → Early r → NotOne (behind t h (drawnOf path (freshPen tagWord t) ws r) .turn)
 unfolding NotBase drawnOf turnOf answerOf toldOf numberOf
 drawing-not-one t h ws path (read es) =
-    let s = sheet ws (On (freshPen t)) in
+    let s = sheet ws (On (freshPen tagWord t)) in
     turn-not-one t h (drawAll path s es .drawn) (all-not-base path s es tt)
 drawing-not-one t h ws path outside = λ e. omega arith
 drawing-not-one t h ws path no-prefix = λ e. omega arith
 drawing-not-one t h ws path no-box = λ e. omega arith
 
-head-not-one : {r : Read Head} → Early r → (layout : Layout) (scene prefixes ws : List ℕ) (t : Turn) → NotOne (stepFrom r layout scene prefixes ws t .turn)
-unfolding stepFrom refusedAt answerOf toldOf numberOf
+head-not-one : {r : Read Head} → Early r → (layout : Layout) (scene prefixes ws : List ℕ) (t : Turn) → NotOne (stepFromBy tagWord r layout scene prefixes ws t .turn)
+unfolding stepFromBy refusedAt answerOf toldOf numberOf
 head-not-one (read h) layout scene prefixes ws t = drawing-not-one t h ws (h .tag .monoid .«path_ix») (events-early layout scene prefixes (t .tag) h)
 head-not-one outside layout scene prefixes ws t = λ e. omega arith
 head-not-one no-prefix layout scene prefixes ws t = λ e. omega arith
 head-not-one no-box layout scene prefixes ws t = λ e. omega arith
 
 step-not-one : (layout : Layout) (scene prefixes ws : List ℕ) (n : ℕ) (t : Turn) → NotOne (stepOf layout scene prefixes ws n t .turn)
-unfolding stepOf
+unfolding stepBy
 step-not-one layout scene prefixes ws n t = head-not-one (head-early layout scene prefixes n (t .tag)) layout scene prefixes ws t
 
 start-not-one : (layout : Layout) → NotOne (startAt false layout)
@@ -162,18 +162,18 @@ from-base false layout scene prefixes ps ws m e =
 -- refusal 1 is given only where a base lies past the scene's end; that it is given there is `bad-base`
 pub one-is-bad-base : (layout : Layout) (scene prefixes : List ℕ) (ps : List PathBox) (ws : List ℕ)
     → callOf layout scene prefixes ps ws .answer .number ≡ 1 → ltb (length scene) (layout .«tag_base») || ltb (length scene) (layout .«data_base») ≡ true
-unfolding callOf startOf
+unfolding callBy startOf
 one-is-bad-base layout scene prefixes ps ws e =
     from-base (ltb (length scene) (layout .«tag_base») || ltb (length scene) (layout .«data_base»)) layout scene prefixes ps ws (layout .«n_wg» * 256) e
 
 -- ---- what the answer tells
 
-tells : (s : Stop) (tag count : ℕ) → toldOf (answerFor s tag count) .count ≡ count
+pub tells : (s : Stop) (tag count : ℕ) → toldOf (answerFor s tag count) .count ≡ count
 unfolding toldOf
 tells stop.Going tag count = refl
 tells (stop.Refused why) tag count = refl
 
-start-count : (b : Bool) (layout : Layout) → startAt b layout .count ≡ 0
+pub start-count : (b : Bool) (layout : Layout) → startAt b layout .count ≡ 0
 unfolding firstTurn
 start-count true layout = refl
 start-count false layout = refl
@@ -181,7 +181,7 @@ start-count false layout = refl
 -- the lines are as many whole records as the answer tells, and behind them the words at entry
 pub call-stored : (layout : Layout) (scene prefixes : List ℕ) (ps : List PathBox) (ws : List ℕ)
     → Stored ws [] (callOf layout scene prefixes ps ws .answer .count) (callOf layout scene prefixes ps ws .lines)
-unfolding callOf startOf answerOf
+unfolding callBy startOf answerOf
 call-stored layout scene prefixes ps ws =
     let b = ltb (length scene) (layout .«tag_base») || ltb (length scene) (layout .«data_base») in
     let s : State = record { turn = startAt b layout; boxes = ps; lines = ws } in

@@ -8,11 +8,11 @@ use lib.Seq.{take-at, drop-at, drop-drop}
 use Rattle.spiral.specs.declared.util.Vec2.{Vec2}
 use Rattle.refusals.specs.Refusals.{Read, found, refused}
 use Rattle.drawing.specs.Sheet.{Event, line, noCount, noJoin, sheet, recordOf, emptyBox, countOf, drawAll}
-use Rattle.drawing.specs.Stands.{recordsOf, Stands, stands}
+use Rattle.drawing.specs.Stands.{penTag, recordsOf, Stands, stands}
 use Rattle.drawing.specs.declared.line.Drawn.{Drawn}
 use Rattle.drawing.specs.declared.line.Drawn.the-variants as drawn
 use Rattle.flatten.specs.Tag.{eventsAt, headAt}
-use Rattle.flatten.specs.Step.{drawnOf, freshPen, turnOf, refusedAt, behind, stepFrom, stepOf}
+use Rattle.flatten.specs.Step.{drawnOf, freshPen, turnOf, refusedAt, behind, tagWord, stepFromBy, stepOf, stepBy}
 use Rattle.flatten.specs.Call.{State, taken, after}
 use Rattle.flatten.specs.CallLaws.{carried}
 use Rattle.flatten.specs.declared.call.Layout.{Layout}
@@ -24,58 +24,58 @@ use Rattle.flatten.specs.declared.tag.Head.{Head}
 -- the words of n lines
 pub data Lines : ℕ → List ℕ → Type 0 where
   none : Lines 0 []
-  next : {n : ℕ} {ws : List ℕ} (path : ℕ) (p q : Vec2) → Lines n ws → Lines (suc n) (recordOf path p q ++ ws)
+  next : {n : ℕ} {ws : List ℕ} (path tag : ℕ) (p q : Vec2) → Lines n ws → Lines (suc n) (recordOf path tag p q ++ ws)
 
 lines-length : {n : ℕ} {ws : List ℕ} → Lines n ws → length ws ≡ n * 6
 lines-length none = refl
-lines-length (next path p q l) = omega (arith, lines-length l)
+lines-length (next path tag p q l) = omega (arith, lines-length l)
 
 and-lines : {m n : ℕ} {xs ys : List ℕ} → Lines m xs → Lines n ys → Lines (m + n) (xs ++ ys)
 and-lines {n = n} none k = let e : n ≡ 0 + n = omega arith in rw e at k
-and-lines {n = n} {ys = ys} (next {n = m} {ws = xs} path p q l) k =
+and-lines {n = n} {ys = ys} (next {n = m} {ws = xs} path tag p q l) k =
     let e : suc (m + n) ≡ suc m + n = omega arith in
-    subst (λ (j : ℕ). Lines j (recordOf path p q ++ (xs ++ ys))) e (next path p q (and-lines l k))
+    subst (λ (j : ℕ). Lines j (recordOf path tag p q ++ (xs ++ ys))) e (next path tag p q (and-lines l k))
 
-drawn-lines : (path k : ℕ) (es : List Event) → length (recordsOf path k es) ≡ k * 6 → Lines k (recordsOf path k es)
+drawn-lines : (path tag k : ℕ) (es : List Event) → length (recordsOf path tag k es) ≡ k * 6 → Lines k (recordsOf path tag k es)
 unfolding recordsOf
-drawn-lines path zero es h = none
-drawn-lines path (suc k) [] h = absurd (omega arith)
-drawn-lines path (suc k) (line p q ∷ es) h = next path p q (drawn-lines path k es (omega arith))
-drawn-lines path (suc k) (noCount ∷ es) h = absurd (omega arith)
-drawn-lines path (suc k) (noJoin ∷ es) h = absurd (omega arith)
+drawn-lines path tag zero es h = none
+drawn-lines path tag (suc k) [] h = absurd (omega arith)
+drawn-lines path tag (suc k) (line p q ∷ es) h = next path tag p q (drawn-lines path tag k es (omega arith))
+drawn-lines path tag (suc k) (noCount ∷ es) h = absurd (omega arith)
+drawn-lines path tag (suc k) (noJoin ∷ es) h = absurd (omega arith)
 
 -- ---- one tag
 
--- what a drawing leaves, whatever is drawn
-record Grown (ws : List ℕ) (n : ℕ) (ws' : List ℕ) (n' : ℕ) : Type 0 where
-  path : ℕ
-  events : List Event
-  drew : Stands path events ws n ws' n'
+-- what the drawing of a tag leaves, whatever is drawn
+pub record Grown (tag : ℕ) (ws : List ℕ) (n : ℕ) (ws' : List ℕ) (n' : ℕ) : Type 0 where
+  pub path : ℕ
+  pub events : List Event
+  pub drew : Stands path tag events ws n ws' n'
 
-unchanged : (ws : List ℕ) (n : ℕ) → Grown ws n ws n
-unfolding drawAll
-unchanged ws n = record { path = 0; events = []; drew = stands 0 [] ws (drawn.On (record { count = n; bbox = emptyBox })) }
+unchanged : (tag : ℕ) (ws : List ℕ) (n : ℕ) → Grown tag ws n ws n
+unfolding drawAll penTag
+unchanged tag ws n = record { path = 0; events = []; drew = stands 0 [] ws (drawn.On (record { count = n; tag = tag; bbox = emptyBox })) }
 
-end-count : (t : Turn) (h : Head) (d : Drawn) → countOf d ≡ turnOf t h d .count
+pub end-count : (t : Turn) (h : Head) (d : Drawn) → countOf d ≡ turnOf t h d .count
 unfolding turnOf
 end-count t h (drawn.On pen) = refl
 end-count t h (drawn.Stopped why n) = refl
 
-drawing-grows : (t : Turn) (h : Head) (ws : List ℕ) (path : ℕ) (r : Read (List Event)) → Grown ws (t .count) (behind t h (drawnOf path (freshPen t) ws r) .lines) (behind t h (drawnOf path (freshPen t) ws r) .turn .count)
-unfolding drawnOf turnOf
-drawing-grows t h ws path (refused why) = unchanged ws (t .count)
+drawing-grows : (t : Turn) (h : Head) (ws : List ℕ) (path : ℕ) (r : Read (List Event)) → Grown (tagWord (t .tag)) ws (t .count) (behind t h (drawnOf path (freshPen tagWord t) ws r) .lines) (behind t h (drawnOf path (freshPen tagWord t) ws r) .turn .count)
+unfolding drawnOf turnOf penTag
+drawing-grows t h ws path (refused why) = unchanged (tagWord (t .tag)) ws (t .count)
 drawing-grows t h ws path (found es) =
-    let d = drawn.On (freshPen t) in
+    let d = drawn.On (freshPen tagWord t) in
     let s = drawAll path (sheet ws d) es in
-    record { path = path; events = es; drew = subst (Stands path es ws (t .count) (s .words)) (end-count t h (s .drawn)) (stands path es ws d) }
+    record { path = path; events = es; drew = subst (Stands path (tagWord (t .tag)) es ws (t .count) (s .words)) (end-count t h (s .drawn)) (stands path es ws d) }
 
-head-grows : (r : Read Head) (layout : Layout) (scene prefixes ws : List ℕ) (t : Turn) → Grown ws (t .count) (stepFrom r layout scene prefixes ws t .lines) (stepFrom r layout scene prefixes ws t .turn .count)
-unfolding stepFrom refusedAt
-head-grows (refused why) layout scene prefixes ws t = unchanged ws (t .count)
+head-grows : (r : Read Head) (layout : Layout) (scene prefixes ws : List ℕ) (t : Turn) → Grown (tagWord (t .tag)) ws (t .count) (stepFromBy tagWord r layout scene prefixes ws t .lines) (stepFromBy tagWord r layout scene prefixes ws t .turn .count)
+unfolding stepFromBy refusedAt
+head-grows (refused why) layout scene prefixes ws t = unchanged (tagWord (t .tag)) ws (t .count)
 head-grows (found h) layout scene prefixes ws t = drawing-grows t h ws (h .tag .monoid .«path_ix») (eventsAt layout scene prefixes (t .tag) h)
 
-step-grows : (layout : Layout) (scene prefixes ws : List ℕ) (n : ℕ) (t : Turn) → Grown ws (t .count) (stepOf layout scene prefixes ws n t .lines) (stepOf layout scene prefixes ws n t .turn .count)
-unfolding stepOf
+pub step-grows : (layout : Layout) (scene prefixes ws : List ℕ) (n : ℕ) (t : Turn) → Grown (tagWord (t .tag)) ws (t .count) (stepOf layout scene prefixes ws n t .lines) (stepOf layout scene prefixes ws n t .turn .count)
+unfolding stepBy
 step-grows layout scene prefixes ws n t = head-grows (headAt layout scene prefixes n (t .tag)) layout scene prefixes ws t
 
 -- ---- the call
@@ -89,10 +89,10 @@ pub record Stored (ws first : List ℕ) (n : ℕ) (ws' : List ℕ) : Type 0 wher
   pub words : ws' ≡ all ++ drop (n * 6) ws
 
 module _ {ws first : List ℕ} {n : ℕ} {ws₁ : List ℕ} {n' : ℕ} {ws' : List ℕ} where
-  more-stored : Stored ws first n ws₁ → Grown ws₁ n ws' n' → Stored ws first n' ws'
-  more-stored s g =
+  more-stored : (tag : ℕ) → Stored ws first n ws₁ → Grown tag ws₁ n ws' n' → Stored ws first n' ws'
+  more-stored tag s g =
       let k = g .drew in
-      let new = recordsOf (g .path) (k .more) (g .events) in
+      let new = recordsOf (g .path) tag (k .more) (g .events) in
       let size = lines-length (s .lines) in
       let kept : take (n * 6) ws₁ ≡ s .all = ap (take (n * 6)) (s .words) ∙ take-at (s .all) (drop (n * 6) ws) (n * 6) size in
       let behind : drop (n * 6) ws₁ ≡ drop (n * 6) ws = ap (drop (n * 6)) (s .words) ∙ drop-at (s .all) (drop (n * 6) ws) (n * 6) size in
@@ -102,7 +102,7 @@ module _ {ws first : List ℕ} {n : ℕ} {ws₁ : List ℕ} {n' : ℕ} {ws' : Li
         all = s .all ++ new;
         rest = s .rest ++ new;
         before = ap (λ (x : List ℕ). x ++ new) (s .before) ∙ append-assoc first (s .rest) new;
-        lines = subst (λ (m : ℕ). Lines m (s .all ++ new)) (sym (k .count)) (and-lines (s .lines) (drawn-lines (g .path) (k .more) (g .events) (k .whole)));
+        lines = subst (λ (m : ℕ). Lines m (s .all ++ new)) (sym (k .count)) (and-lines (s .lines) (drawn-lines (g .path) tag (k .more) (g .events) (k .whole)));
         words = k .words ∙ ap (λ (x : List ℕ). x ++ new ++ drop (n' * 6) ws₁) kept ∙ ap (λ (x : List ℕ). s .all ++ new ++ x) (rw e later);
       }
 
@@ -112,4 +112,4 @@ pub call-stands : (layout : Layout) (scene prefixes ws first : List ℕ) (n : �
 unfolding taken
 call-stands layout scene prefixes ws first n s h =
     carried layout scene prefixes (λ (t : State). Stored ws first (t .turn .count) (t .lines))
-    (λ t e k. more-stored k (step-grows layout scene prefixes (t .lines) (length (t .boxes)) (t .turn))) n s h
+    (λ t e k. more-stored (tagWord (t .turn .tag)) k (step-grows layout scene prefixes (t .lines) (length (t .boxes)) (t .turn))) n s h

@@ -21,9 +21,21 @@ unfoldable pub drawnOf : ℕ → Pen → List ℕ → Read (List Event) → Shee
 drawnOf path pen ws (found es) = drawAll path (sheet ws (On pen)) es
 drawnOf path pen ws (refused why) = sheet ws (Stopped why (pen .count))
 
+-- ---- the second word of a line's record, by the index of the tag that drew it
+
+-- the index, modulo 2^32
+abbrev pub tagWord : ℕ → ℕ
+tagWord i = i % 2 ^ 32
+
+-- 0: the scope paper's, with which no tag is told
+abbrev pub noWord : ℕ → ℕ
+noWord i = 0
+
+-- ---- what one tag does, with either word
+
 -- each tag draws with a box of its own, behind the lines stored before
-abbrev pub freshPen : Turn → Pen
-freshPen t = record { count = t .count; bbox = emptyBox }
+abbrev pub freshPen : (ℕ → ℕ) → Turn → Pen
+freshPen word t = record { count = t .count; tag = word (t .tag); bbox = emptyBox }
 
 -- ---- where the call stands then
 
@@ -69,10 +81,14 @@ stepped t ws = record { turn = t; lines = ws }
 abbrev pub behind : Turn → Head → Sheet → Stepped
 behind t h s = stepped (turnOf t h (s .drawn)) (s .words)
 
-unfoldable pub stepFrom : Read Head → Layout → List ℕ → List ℕ → List ℕ → Turn → Stepped
-stepFrom (found h) layout scene prefixes lines t =
-    behind t h (drawnOf (h .tag .monoid .«path_ix») (freshPen t) lines (eventsAt layout scene prefixes (t .tag) h))
-stepFrom (refused why) layout scene prefixes lines t = stepped (refusedAt t why) lines
+unfoldable pub stepFromBy : (ℕ → ℕ) → Read Head → Layout → List ℕ → List ℕ → List ℕ → Turn → Stepped
+stepFromBy word (found h) layout scene prefixes lines t =
+    behind t h (drawnOf (h .tag .monoid .«path_ix») (freshPen word t) lines (eventsAt layout scene prefixes (t .tag) h))
+stepFromBy word (refused why) layout scene prefixes lines t = stepped (refusedAt t why) lines
 
-unfoldable pub stepOf : Layout → List ℕ → List ℕ → List ℕ → ℕ → Turn → Stepped
-stepOf layout scene prefixes lines n t = stepFrom (headAt layout scene prefixes n (t .tag)) layout scene prefixes lines t
+unfoldable pub stepBy : (ℕ → ℕ) → Layout → List ℕ → List ℕ → List ℕ → ℕ → Turn → Stepped
+stepBy word layout scene prefixes lines n t = stepFromBy word (headAt layout scene prefixes n (t .tag)) layout scene prefixes lines t
+
+-- the step of this call, whose lines tell their tag
+abbrev pub stepOf : Layout → List ℕ → List ℕ → List ℕ → ℕ → Turn → Stepped
+stepOf = stepBy tagWord

@@ -1,10 +1,10 @@
 // One tag.
 ghost use mathlib.Core.Path.{_≡_};
-ghost use Prim.Native.Nat.{_-_, _<_};
+ghost use Prim.Native.Nat.{_+_, _-_, _%_, _^_, _<_};
 ghost use Rattle.drawing.specs.Sheet.{sheet};
 ghost use Rattle.drawing.specs.declared.line.Drawn.the-variants.{Stopped};
 ghost use Rattle.flatten.specs.Tag.{eventsAt};
-ghost use Rattle.flatten.specs.Step.{drawnOf, changeOf, turnOf, refusedAt, stepped, stepOf};
+ghost use Rattle.flatten.specs.Step.{tagWord, drawnOf, changeOf, turnOf, refusedAt, stepped, stepOf};
 use crate::boxes::Change;
 use crate::call::Layout;
 use crate::call::Stop;
@@ -29,13 +29,18 @@ fn draw_tag(
     lines: &mut [u32],
     ix: u64,
     head: Head,
+    word: u32,
     count: u32,
     bbox: IntBbox,
 ) -> Drawn
     ensures { λ r. ⌜ sheet (now (lines .exit)) r
-        ≡ drawnOf (head .tag .monoid .«path_ix») (record { count = count; bbox = bbox }) (now (lines .entry)) (eventsAt layout (now (scene .entry)) (now (prefixes .entry)) ix head) ⌝ }
+        ≡ drawnOf (head .tag .monoid .«path_ix») (record { count = count; tag = word; bbox = bbox }) (now (lines .entry)) (eventsAt layout (now (scene .entry)) (now (prefixes .entry)) ix head) ⌝ }
 {
-    let pen = Pen { count, bbox };
+    let pen = Pen {
+        count,
+        tag: word,
+        bbox,
+    };
     let tag = head.tag;
     if tag.tag_byte % 4 == 0 {
         return Drawn::On(pen);
@@ -78,6 +83,13 @@ fn one_less(left: u64) -> u64
     if left == 0 { 0 } else { left - 1 }
 }
 
+// An index is 64 bits wide and wraps.
+fn next_index(ix: u64) -> u64
+    ensures { λ r. ⌜ r ≡ (ix + 1) % 2 ^ 64 ⌝ }
+{
+    std::num::wrapping_add_u64(ix, 1)
+}
+
 // Where a tag is stopped as it draws, it is not finished: no box of it is merged.
 fn stopped_at(t: Turn, head: Head, why: Refusal, count: u32) -> Turn
     ensures { λ r. ⌜ r ≡ turnOf t head (Stopped why count) ⌝ }
@@ -105,7 +117,7 @@ fn turn_of(t: Turn, head: Head, drawn: Drawn) -> Turn
             let change = change_of(head, pen.bbox);
             Turn {
                 left: one_less(t.left),
-                tag: std::num::wrapping_add_u64(t.tag, 1),
+                tag: next_index(t.tag),
                 count: pen.count,
                 stop: Stop::Going,
                 at,
@@ -136,6 +148,13 @@ fn refused_at(t: Turn, why: Refusal) -> Turn
     }
 }
 
+// By which the lines of a tag tell it: its index modulo 2^32.
+fn tag_word(ix: u64) -> u32
+    ensures { λ r. ⌜ r ≡ tagWord ix ⌝ }
+{
+    (ix % 4294967296) as u32
+}
+
 pub fn step(
     layout: Layout,
     scene: &[u32],
@@ -151,7 +170,18 @@ pub fn step(
         HeadRead::Found(head) => {
             // Each tag starts a box of its own: that of the last one is merged.
             let own = IntBbox::empty();
-            let drawn = draw_tag(layout, scene, prefixes, lines, t.tag, head, t.count, own);
+            let word = tag_word(t.tag);
+            let drawn = draw_tag(
+                layout,
+                scene,
+                prefixes,
+                lines,
+                t.tag,
+                head,
+                word,
+                t.count,
+                own,
+            );
             turn_of(t, head, drawn)
         }
         HeadRead::Refused(why) => refused_at(t, why),

@@ -126,11 +126,12 @@ fn euler(lines: &mut [u32], ink: Drawn, line: &[u8; 351]) -> Drawn {
     )
 }
 
-// Draws behind as many lines as the vector says.
+// Draws behind as many lines as the vector says. The Rust tells no tag: 0 stands for it.
 fn draw(lines: &mut [u32], line: &[u8; 351]) -> Drawn {
     let bbox = IntBbox::empty();
     let ink = Drawn::On(Pen {
         count: word(line, 2),
+        tag: 0,
         bbox,
     });
     match word(line, 0) {

@@ -17,9 +17,9 @@ use Rattle.refusals.specs.declared.Refusal.the-variants.{BadBase}
 use Rattle.drawing.specs.Sheet.{Event, line, noCount, noJoin}
 use Rattle.drawing.specs.Stands.{recordsOf}
 use Rattle.flatten.specs.Tag.{_>>=_}
-use Rattle.flatten.specs.Step.{Stepped, stepOf}
+use Rattle.flatten.specs.Step.{tagWord, Stepped, stepOf}
 use Rattle.flatten.specs.Boxes.{changedAt}
-use Rattle.flatten.specs.Call.{startAt, firstTurn, startOf, State, taken, next, after, answerFor, answerOf, said, toldOf, callOf}
+use Rattle.flatten.specs.Call.{startAt, firstTurn, startOf, State, taken, next, after, answerFor, answerOf, said, toldOf, afterBy, callBy}
 use Rattle.flatten.specs.CallLaws.{moves, at-rest}
 use Rattle.flatten.specs.declared.call.Stop.{Stop}
 use Rattle.flatten.specs.declared.call.Stop.the-variants as stop
@@ -36,19 +36,19 @@ laid W R ws a b h =
     ap (λ (x : List ℕ). x ++ R ++ drop (a + b) (W ++ drop a ws)) (take-at W (drop a ws) a h)
     ∙ ap (λ (x : List ℕ). W ++ R ++ x) (sym (drop-drop b a (W ++ drop a ws)) ∙ ap (drop b) (drop-at W (drop a ws) a h) ∙ drop-drop b a ws)
 
-length-records : (path : ℕ) (es : List Event) → AllLines es → length (recordsOf path (length es) es) ≡ length es * 6
+length-records : (path tag : ℕ) (es : List Event) → AllLines es → length (recordsOf path tag (length es) es) ≡ length es * 6
 unfolding recordsOf AllLines
-length-records path [] h = refl
-length-records path (line p q ∷ es) h = omega (arith, length-records path es h)
-length-records path (noCount ∷ es) h = absurd h
-length-records path (noJoin ∷ es) h = absurd h
+length-records path tag [] h = refl
+length-records path tag (line p q ∷ es) h = omega (arith, length-records path tag es h)
+length-records path tag (noCount ∷ es) h = absurd h
+length-records path tag (noJoin ∷ es) h = absurd h
 
 up-to : (P : ℕ → Type 0) (k : ℕ) → ((i : ℕ) → i < k → P i) → P k → (i : ℕ) → i < suc k → P i
 up-to P k f p i h = elim (ℕ-discrete i k) [ yes e ↦ subst P (sym e) p | no ne ↦ f i (omega (arith, ne)) ]
 
 -- the words of tag i's lines, and of those of all tags before it
 unfoldable pub recordsAt : Call → ℕ → List ℕ
-recordsAt c i = recordsOf (headOf c i .tag .monoid .«path_ix») (length (drawnAt c i)) (drawnAt c i)
+recordsAt c i = recordsOf (headOf c i .tag .monoid .«path_ix») (tagWord i) (length (drawnAt c i)) (drawnAt c i)
 
 unfoldable pub recordsBefore : Call → ℕ → List ℕ
 recordsBefore c zero = []
@@ -75,7 +75,7 @@ module _ (c : Call) where
   unfolding recordsBefore countBefore recordsAt
   length-before zero f = refl
   length-before (suc k) f =
-      omega (arith, length-append (recordsBefore c k) (recordsAt c k), length-before k (λ i h. f i (omega arith)), length-records (headOf c k .tag .monoid .«path_ix») (drawnAt c k) (f k (omega arith) .lines))
+      omega (arith, length-append (recordsBefore c k) (recordsAt c k), length-before k (λ i h. f i (omega arith)), length-records (headOf c k .tag .monoid .«path_ix») (tagWord k) (drawnAt c k) (f k (omega arith) .lines))
 
   -- ---- the tags one after the other
 
@@ -113,9 +113,9 @@ module _ (c : Call) where
     all : g .stands .more ≡ length (drawnAt c k)
     all = omega (arith, g .stands .count, g .count, ap length are-events)
 
-    records : recordsOf (g .head .tag .monoid .«path_ix») (g .stands .more) (g .events) ≡ recordsAt c k
+    records : recordsOf (g .head .tag .monoid .«path_ix») (tagWord (s .turn .tag)) (g .stands .more) (g .events) ≡ recordsAt c k
     unfolding recordsAt
-    records = rw (all, are-events, is-head)
+    records = rw (all, are-events, is-head, w .tag)
 
     total : o .turn .count ≡ countBefore c (suc k)
     unfolding countBefore
@@ -184,7 +184,7 @@ module _ (c : Call) where
         rw (at-rest (c .layout) (c .scene) (c .prefixes) s (ap (ltb 0) (h .left))) (inr h)
 
     all-tags : (k : ℕ) → k ≤ tags c → Stands-at k (after k (c .layout) (c .scene) (c .prefixes) first)
-    unfolding after
+    unfolding afterBy
     all-tags zero l = starts-at
     all-tags (suc k) l = then k (after k (c .layout) (c .scene) (c .prefixes) first) l (all-tags k (omega arith))
 
@@ -210,7 +210,7 @@ done-at c n s (inl w) e =
 done-at c n s (inr h) e = absurd (h .stop (lines-said (s .turn .stop) (s .turn .tag) (s .turn .count) n e .0))
 
 pub done : (c : Call) (a : Accepted c) → Done c (a .count)
-unfolding callOf first
+unfolding callBy first
 done c a =
     let d = done-at c (a .count) _ (all-tags c (a .u32) (tags c) (omega arith)) (a .answer) in
     record { sound = d .0; counted = d .1; lines = d .2 }

@@ -30,15 +30,15 @@ open-ends x y a b (noCount ∷ es) l h = absurd l
 open-ends x y a b (noJoin ∷ es) l h = absurd l
 
 -- lines and their records
-pub in-records : (x y path : ℕ) (es : List Event) (ws : List ℕ) → AllLines es
-    → (among 2 x y (length es) (recordsOf path (length es) es ++ ws) ≡ starts x y es) × (among 4 x y (length es) (recordsOf path (length es) es ++ ws) ≡ ends x y es)
+pub in-records : (x y path tag : ℕ) (es : List Event) (ws : List ℕ) → AllLines es
+    → (among 2 x y (length es) (recordsOf path tag (length es) es ++ ws) ≡ starts x y es) × (among 4 x y (length es) (recordsOf path tag (length es) es ++ ws) ≡ ends x y es)
 unfolding among recordsOf starts ends AllLines
-in-records x y path [] ws l = (refl, refl)
-in-records x y path (line p q ∷ es) ws l =
-    let h = in-records x y path es ws l in
+in-records x y path tag [] ws l = (refl, refl)
+in-records x y path tag (line p q ∷ es) ws l =
+    let h = in-records x y path tag es ws l in
     (ap (λ (n : ℕ). isAt x y p + n) (h .0), ap (λ (n : ℕ). isAt x y q + n) (h .1))
-in-records x y path (noCount ∷ es) ws l = absurd l
-in-records x y path (noJoin ∷ es) ws l = absurd l
+in-records x y path tag (noCount ∷ es) ws l = absurd l
+in-records x y path tag (noJoin ∷ es) ws l = absurd l
 
 pub starts-append : (x y : ℕ) (xs ys : List Event) → starts x y (xs ++ ys) ≡ starts x y xs + starts x y ys
 unfolding starts

@@ -13,14 +13,14 @@ use Rattle.refusals.specs.declared.LineEnd.the-variants.{Start, End}
 use Rattle.refusals.specs.declared.Refusal.the-variants.{NotNumber, NoRoom, NoJoin, NoCount}
 use Rattle.spiral.specs.declared.util.Vec2.{Vec2}
 use Rattle.spiral.specs.Util.{hasNan}
-use Rattle.drawing.specs.Sheet.{Event, line, noCount, noJoin, Sheet, sheet, recordOf, hasRoom, boxWith, stored, drawOn, draw, drawAll, isStopped, countOf}
+use Rattle.drawing.specs.Sheet.{Event, line, noCount, noJoin, Sheet, sheet, recordOf, penBehind, hasRoom, stored, drawOn, draw, drawAll, isStopped, countOf}
 use Rattle.drawing.specs.SheetLaws.{absorbs}
-use Rattle.drawing.specs.Stands.{Stands, stands}
+use Rattle.drawing.specs.Stands.{penTag, Stands, stands}
 use Rattle.drawing.specs.declared.line.Pen.{Pen}
 use Rattle.drawing.specs.declared.line.Drawn.{Drawn}
 use Rattle.drawing.specs.declared.line.Drawn.the-variants as drawn
 use Rattle.flatten.specs.Tag.{headAt, eventsAt}
-use Rattle.flatten.specs.Step.{drawnOf, freshPen, turnOf, refusedAt, Stepped, behind, stepFrom, stepOf}
+use Rattle.flatten.specs.Step.{drawnOf, freshPen, turnOf, refusedAt, Stepped, behind, tagWord, stepFromBy, stepOf, stepBy}
 use Rattle.flatten.specs.declared.call.Layout.{Layout}
 use Rattle.flatten.specs.declared.call.Turn.{Turn}
 use Rattle.flatten.specs.declared.call.Stop.the-variants as stop
@@ -46,7 +46,7 @@ line-whole path p q es ws pen pen' true t u rest e = absurd (stopped path es ws 
 line-whole path p q es ws pen pen' false true u rest e = absurd (stopped path es ws (drawn.Stopped (NotNumber End) (pen .count)) pen' refl e)
 line-whole path p q es ws pen pen' false false false rest e = absurd (stopped path es ws (drawn.Stopped NoRoom (pen .count)) pen' refl e)
 line-whole path p q es ws pen pen' false false true rest e =
-    let w = rest (sets ws (pen .count * 6) (recordOf path p q)) (record { count = pen .count + 1; bbox = boxWith (boxWith (pen .bbox) p) q }) e in
+    let w = rest (sets ws (pen .count * 6) (recordOf path (pen .tag) p q)) (penBehind pen p q) e in
     (w .0, omega (arith, w .1))
 
 -- where the pen is on at the end, all were lines, and all are stored
@@ -78,21 +78,21 @@ module _ (layout : Layout) (scene prefixes ws : List ℕ) (n : ℕ) (t : Turn) w
     pub left : o .turn .left ≡ t .left - 1
     pub tag : o .turn .tag ≡ (t .tag + 1) % 2 ^ 64
     pub count : o .turn .count ≡ t .count + length events
-    pub stands : Stands (head .tag .monoid .«path_ix») events ws (t .count) (o .lines) (o .turn .count)
+    pub stands : Stands (head .tag .monoid .«path_ix») (tagWord (t .tag)) events ws (t .count) (o .lines) (o .turn .count)
 
   abbrev Turns : Stepped → Type 0
   Turns o = Goes o ⊎ Halts (o .turn)
 
   drawn-turns : (h : Head) (es : List Event) → headAt layout scene prefixes n (t .tag) ≡ found h → eventsAt layout scene prefixes (t .tag) h ≡ found es
-      → Turns (behind t h (drawnOf (h .tag .monoid .«path_ix») (freshPen t) ws (found es)))
-  unfolding drawnOf turnOf
+      → Turns (behind t h (drawnOf (h .tag .monoid .«path_ix») (freshPen tagWord t) ws (found es)))
+  unfolding drawnOf turnOf penTag
   drawn-turns h es e k = go (s .drawn) refl
     where
       path : ℕ
       path = h .tag .monoid .«path_ix»
 
       pen : Pen
-      pen = freshPen t
+      pen = freshPen tagWord t
 
       s : Sheet
       s = drawAll path (sheet ws (drawn.On pen)) es
@@ -110,21 +110,21 @@ module _ (layout : Layout) (scene prefixes ws : List ℕ) (n : ℕ) (t : Turn) w
             left = refl;
             tag = refl;
             count = w .1;
-            stands = subst (λ (d : Drawn). Stands path es ws (t .count) (s .words) (countOf d)) is (stands path es ws (drawn.On pen));
+            stands = subst (λ (d : Drawn). Stands path (tagWord (t .tag)) es ws (t .count) (s .words) (countOf d)) is (stands path es ws (drawn.On pen));
           })
       go (drawn.Stopped why m) is = inr (record { stop = not-going why; left = refl })
 
   events-turns : (h : Head) → headAt layout scene prefixes n (t .tag) ≡ found h → (r : Read (List Event)) → eventsAt layout scene prefixes (t .tag) h ≡ r
-      → Turns (behind t h (drawnOf (h .tag .monoid .«path_ix») (freshPen t) ws r))
+      → Turns (behind t h (drawnOf (h .tag .monoid .«path_ix») (freshPen tagWord t) ws r))
   unfolding drawnOf turnOf
   events-turns h e (found es) k = drawn-turns h es e k
   events-turns h e (refused why) k = inr (record { stop = not-going why; left = refl })
 
-  head-turns : (r : Read Head) → headAt layout scene prefixes n (t .tag) ≡ r → Turns (stepFrom r layout scene prefixes ws t)
-  unfolding stepFrom refusedAt
+  head-turns : (r : Read Head) → headAt layout scene prefixes n (t .tag) ≡ r → Turns (stepFromBy tagWord r layout scene prefixes ws t)
+  unfolding stepFromBy refusedAt
   head-turns (found h) e = events-turns h e (eventsAt layout scene prefixes (t .tag) h) refl
   head-turns (refused why) e = inr (record { stop = not-going why; left = refl })
 
   pub turns : Turns (stepOf layout scene prefixes ws n t)
-  unfolding stepOf
+  unfolding stepBy
   turns = head-turns (headAt layout scene prefixes n (t .tag)) refl

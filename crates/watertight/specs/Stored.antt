@@ -6,6 +6,7 @@ use native.Mathlib.Omega.{arith}
 use native.Mathlib.Decide.{ℕ-discrete}
 use lib.ListN.{length, drop}
 use lib.Seq.{drop-at}
+use Rattle.flatten.specs.Step.{tagWord}
 use Rattle.watertight.specs.Count.{among, starts, ends}
 use Rattle.watertight.specs.Balance.{in-records, starts-append, ends-append}
 use Rattle.watertight.specs.Fill.{Call, Accepted, outcome, tags, headOf, drawnAt, Filled, Each, linesOf, countBefore, stored}
@@ -52,7 +53,7 @@ module _ (c : Call) (accepted : Accepted c) where
     unfolding recordsAt
     one i h =
         let p = place i h in
-        rw (p .is) (in-records x y (headOf c i .tag .monoid .«path_ix») (drawnAt c i) (p .rest) (done c accepted .sound i h .lines))
+        rw (p .is) (in-records x y (headOf c i .tag .monoid .«path_ix») (tagWord i) (drawnAt c i) (p .rest) (done c accepted .sound i h .lines))
 
     pub as-drawn : (z : List ℕ) (is : List ℕ) → Each (Filled c z) is
         → (stored c 2 x y is ≡ starts x y (linesOf c is)) × (stored c 4 x y is ≡ ends x y (linesOf c is))

@@ -1,7 +1,7 @@
 """hinth compare: a page that lays two folders of drawings over each other."""
 from ..cli import DONE, REFUSED, Parser
 from ..files import target
-from ..picture.paper import Wishes
+from ..picture.drawing import MOST_TAGS, Wishes
 from ..progress import Progress
 from ..report.judging import verdict_of
 from ..report.page import Entry, page_of, summary_of
@@ -60,7 +60,8 @@ def run(options) -> int:
         entries = entries_of(pairs_of(old, new), progress)
         progress.doing = "writing the page"
         with target(options.report) as out:
-            for part in page_of(folders, entries, no_old + no_new, Wishes(options.mm, ink=options.ink)):
+            wishes = Wishes(options.mm, ink=options.ink, most_tags=MOST_TAGS // max(1, len(entries)))
+            for part in page_of(folders, entries, no_old + no_new, wishes):
                 out.write(part.encode())
     say(f"{summary_of(entries)}" + (f"; left out: {', '.join(no_old + no_new)}" if no_old + no_new else ""))
     return REFUSED if any(entry.verdict.kind in ("not read", "refused") for entry in entries) else DONE

@@ -11,7 +11,7 @@ from ..progress import Progress
 from ..reading import read_listing
 from ..saying import say
 
-HELP = """usage: hinth draw [--ink] [--arrows] [--mm SIZE] [-o PICTURE] LIST [OVER]
+HELP = """usage: hinth draw [--ink] [--arrows] [--tag T] [--mm SIZE] [-o PICTURE] LIST [OVER]
 
 Draws the lines of a list as an SVG picture. With a second list, lays that one over the first.
 
@@ -23,6 +23,7 @@ Examples:
   hinth draw samples/socket.sheet -o socket.svg              open it in any browser
   hinth draw --mm 0.5 --ink samples/socket.lines -o a.svg    a unit is 0.5 mm; shade what is inked
   hinth draw --arrows old.lines new.lines -o both.svg        what both have, what only one has
+  hinth draw --tag 7 samples/socket.sheet -o seventh.svg     which lines tag 7 draws
 
 One list    Each path has its colour, of six that repeat, and its box is dashed, with the path's number.
 Two lists   The first is blue and wide, the second orange and narrow. A line that only one of them has is drawn
@@ -30,6 +31,10 @@ Two lists   The first is blue and wide, the second orange and narrow. A line tha
 Ink         With --ink, what a fill of each path covers is shaded, by the path's own rule: even-odd where its box's draw
             flags say so, else nonzero. So an opening is seen open, or solid where the rule makes it so. An outline
             that is open is shaded as if each open end went straight to the nearest open start.
+Tags        Point at a line to read its path and its tag: the segment that drew it, counted from 0 over all tags of the
+            sheet, as a refusal counts them. It stands on line 7 + tag base + T/4 of the sheet (docs/FLATLIST.md), and
+            `hinth info` tells the tag base. With --tag T, tag T's lines are drawn strong and all others pale, and how
+            many it drew is said. Lists of an older version do not tell tags: flatten the sheet again.
 Red rings   An open point: among the lines of its path it is not a start as often as an end. Points are compared by
             their bits, as in docs/WATERTIGHT.md, so +0 and -0 are two. Point at a ring to read it. Of two lists, the
             first has the larger rings. Closed fills have none; a stroke can have some where rounding leaves a last
@@ -44,8 +49,9 @@ picture's mirror image. The drawing's corner is taken off the coordinates, and t
 stands in the picture to a thousandth of its unit, and in the words of a ring in full.
 
 Large lists: of more than 10,000 open points each is a red dot without words; of more than 40 paths 40 have a row of
-their own, open ones first, the others share one, and boxes have no numbers. An input of more than 120,000,000 bytes,
-or a sheet of more than 2,000,000 lines, is not drawn.
+their own, open ones first, the others share one, and boxes have no numbers; of more than 20,000 tags, neighbours share
+their words, as `tags 12 to 950`, and --tag shows one of them. An input of more than 120,000,000 bytes, or a sheet of
+more than 2,000,000 lines, is not drawn.
 
 What was found is said on standard error. The exit status is 0 where the picture shows a whole drawing, with rings or
 without; 1 where it lacks something; 2 where there is no picture, since the input is not in the form or the picture
@@ -60,7 +66,18 @@ def arguments(parser: Parser) -> None:
     parser.add_argument("-o", dest="picture", metavar="PICTURE", default="-")
     parser.add_argument("--ink", action="store_true")
     parser.add_argument("--arrows", action="store_true")
+    parser.add_argument("--tag", type=tag_of, metavar="T")
     parser.add_argument("--mm", type=size_of, metavar="SIZE")
+
+
+def tag_of(word: str) -> int:
+    """The index of a tag, as a line's record holds it."""
+    if not (word.isascii() and word.isdigit() and int(word) < 2**32):
+        raise ValueError
+    return int(word)
+
+
+tag_of.__name__ = "tag number"  # as argparse tells it
 
 
 def size_of(word: str) -> float:
@@ -87,9 +104,9 @@ def run(options) -> int:
             progress.doing = f"reading {name}"
             lists.append(found_in(read_listing(name)))
         progress.doing = "drawing"
-        picture = picture_of(lists, Wishes(options.mm, options.arrows, options.ink))
+        picture = picture_of(lists, Wishes(options.mm, options.arrows, options.ink, options.tag))
         with target(options.picture) as out:
             out.write(picture.encode())
-    for sentence in sentences_of(lists):
+    for sentence in sentences_of(lists, options.tag):
         say(sentence)
     return REFUSED if any(map(lacks_of, lists)) else DONE

@@ -1,15 +1,15 @@
 """Drawing: the marks of a picture, as SVG."""
 from collections import Counter
-from itertools import accumulate, groupby, repeat
-from typing import Callable, Iterable, List, NamedTuple, Optional, Sequence
+from itertools import accumulate, groupby, islice
+from typing import Callable, Iterable, Iterator, List, NamedTuple, Optional, Sequence, Tuple
 from xml.sax.saxutils import escape
 
 from ..columns import Lines, finite_points, place_of, places_of
 from ..saying import count
 from . import ink
-from .counting import Found, Outline, boxes_shown, chains_of, shared_and_alone
+from .counting import Found, Outline, boxes_shown, chains_of, kinds_of, runs_of, shared_and_alone
 from .geometry import Frame, Place, heads_along
-from .telling import MOST_OUTLINES, shown
+from .telling import MOST_OUTLINES, about_drawers, shown
 
 # Okabe and Ito's colours, which people with colour blindness can tell apart, but for the yellow, which white paper
 # hides, and the vermilion, which is too near to the red of the rings.
@@ -22,17 +22,36 @@ ALONE = [("#0072b2", 6), ("#b85c00", 3)]
 MOST_RINGS = 10_000
 # Lines in one element: viewers take very long for one with many more, and for very many elements.
 MOST_LINES = 1000
+# Elements with one tag's lines each. With more, lines of several tags share an element and its title.
+MOST_TAGS = 20_000
+# Where one tag is asked for: how wide its lines are in one list, and how much is left of the colour of all others.
+STRONG, PALE = 5, 0.45
 
 Colours = Callable[[int], str]  # of a path
 
 
 class Wishes(NamedTuple):
-    """What is asked of a picture: how many millimetres a unit has, if that is known, whether arrows are drawn, and
-    whether what a fill inks is shaded."""
+    """What is asked of a picture: how many millimetres a unit has, if that is known, whether arrows are drawn, whether
+    what a fill inks is shaded, the tag whose lines are drawn strong, if there is one, and for how many tags an element
+    of its own is not too much."""
 
     millimetres: Optional[float] = None
     arrows: bool = False
     ink: bool = False
+    tag: Optional[int] = None
+    most_tags: int = MOST_TAGS
+
+
+class Layer(NamedTuple):
+    """Lines that are drawn alike: their colour and width, and both where their tag is asked for; and what is said before
+    and behind their path and tag."""
+
+    lines: Lines
+    colour: str
+    width: float
+    strong: Tuple[str, float]
+    before: str = ""
+    behind: str = ""
 
 
 def digits(x: float) -> str:
@@ -81,20 +100,20 @@ def places_along(lines: Lines, chain: slice, frame: Frame) -> List[Place]:
     return frame.all_at([lines.starts[chain.start], *lines.ends[chain]])
 
 
-def packed(parts: Iterable[str], sizes: Iterable[int]) -> List[str]:
-    """Path elements of the parts, each with those of about MOST_LINES together."""
-    shelves = [total // MOST_LINES for total in accumulate(sizes)]
-    together = groupby(zip(shelves, parts), key=lambda placed: placed[0])
-    return [f'<path d="{"".join(part for _, part in group)}"/>\n' for _, group in together]
-
-
-def chains_drawn(lines: Lines, frame: Frame) -> List[str]:
-    """Of each chain the start, and every end."""
-    chains = chains_of(lines, MOST_LINES)
+def chains_drawn(layer: Layer, frame: Frame, by_tag: bool) -> Iterator[str]:
+    """Of each chain the start, and every end. Those of about MOST_LINES together share an element, if they are of one tag
+    or tags do not count; its title tells whose they are."""
+    lines, kinds = layer.lines, kinds_of(layer.lines, by_tag)
+    chains = chains_of(lines, kinds, MOST_LINES)
     starts = frame.all_at([lines.starts[chain.start] for chain in chains])
     ends = list(map(pair, frame.all_at(lines.ends)))
     parts = [f'M{pair(start)} {" ".join(ends[chain])}' for start, chain in zip(starts, chains)]
-    return packed(parts, [part.count(" ") // 2 for part in parts])
+    behind = [0, *accumulate(part.count(" ") // 2 for part in parts)]  # the lines up to each chain
+    shelves = [(total // MOST_LINES, kinds[total - 1] if by_tag else 0) for total in behind[1:]]
+    for run in runs_of(shelves):
+        held = slice(behind[run.start], behind[run.stop])
+        title = f"{layer.before}{about_drawers(lines.paths[held], lines.tags[held])}{layer.behind}"
+        yield f'<path d="{"".join(parts[run])}"><title>{title}</title></path>\n'
 
 
 def head_drawn(place: Place, forth: Place, size: float) -> str:
@@ -106,18 +125,48 @@ def head_drawn(place: Place, forth: Place, size: float) -> str:
                (back[0] + side * v, back[1] - side * u), end="z")
 
 
-def heads_drawn(lines: Lines, frame: Frame, colour: str, width: float) -> str:
-    """Arrow heads, larger on wider lines."""
-    chains = chains_of(lines, MOST_LINES)
-    heads = [head_drawn(*head) for chain in chains
-             for head in heads_along(places_along(lines, chain, frame), 7 + 2 * width)]
-    return f'<g fill="{colour}" class="heads">{"".join(heads)}</g>'
+def heads_drawn(layer: Layer, frame: Frame) -> str:
+    """Arrow heads, larger on wider lines. The pointer goes through them, to the line."""
+    lines = layer.lines
+    heads = [head_drawn(*head) for chain in chains_of(lines, lines.paths, MOST_LINES)
+             for head in heads_along(places_along(lines, chain, frame), 7 + 2 * layer.width)]
+    return f'<g fill="{layer.colour}" class="heads" pointer-events="none">{"".join(heads)}</g>'
 
 
-def lines_drawn(lines: Lines, frame: Frame, colour: str, width: float, title: str, arrows: bool) -> str:
-    lines = lines.drawable()
-    drawn = inked([f"<title>{title}</title>\n", *chains_drawn(lines, frame)], colour, width)
-    return drawn + (heads_drawn(lines, frame, colour, width) if arrows else "")
+def layer_drawn(layer: Layer, frame: Frame, by_tag: bool, arrows: bool) -> str:
+    drawn = inked(chains_drawn(layer, frame, by_tag), layer.colour, layer.width, ' class="lines"')
+    return drawn + ("\n" + heads_drawn(layer, frame) if arrows else "")
+
+
+def are_few_tags(layers: List[Layer], most: int) -> bool:
+    """Whether each tag's lines can have an element of their own."""
+    drawers = (drawer for layer in layers for drawer in zip(layer.lines.paths, layer.lines.tags))
+    return sum(1 for _ in islice(groupby(drawers), most + 1)) <= most
+
+
+def pale(colour: str) -> str:
+    """Mixed with white."""
+    return "#" + "".join(f"{round(255 - PALE * (255 - int(colour[i:i + 2], 16))):02x}" for i in (1, 3, 5))
+
+
+def with_tag_strong(layers: List[Layer], tag: int) -> List[Layer]:
+    """The tag's lines strong, over all others, which are pale."""
+    others, chosen = [], []
+    for layer in layers:
+        drawn = layer.lines.drawn_by(tag)
+        others.append(layer._replace(lines=layer.lines.without(drawn), colour=pale(layer.colour)))
+        if drawn:
+            colour, width = layer.strong
+            chosen.append(layer._replace(lines=layer.lines.at(drawn), colour=colour, width=width))
+    return others + chosen
+
+
+def layers_drawn(layers: List[Layer], frame: Frame, wishes: Wishes) -> List[str]:
+    layers = [layer._replace(lines=layer.lines.drawable()) for layer in layers]
+    if wishes.tag is not None:
+        layers = with_tag_strong(layers, wishes.tag)
+    by_tag = are_few_tags(layers, wishes.most_tags)
+    return [layer_drawn(layer, frame, by_tag, wishes.arrows) for layer in layers]
 
 
 def box_drawn(box: Sequence[int], frame: Frame, colour: str, side: int) -> str:
@@ -150,7 +199,8 @@ def rings_drawn(found: Found, frame: Frame, radius: int) -> str:
     finite = [(outline, finite_points(outline.open)) for outline in found.outlines]
     if sum(len(points) for _, points in finite) > MOST_RINGS:
         dots = [f"M{pair(place)}h0" for _, points in finite for place in frame.all_at(points)]
-        return inked(packed(dots, repeat(1, len(dots))), RED, radius, ' class="dots"')
+        parts = ["".join(dots[first:first + MOST_LINES]) for first in range(0, len(dots), MOST_LINES)]
+        return inked([f'<path d="{part}"/>\n' for part in parts], RED, radius, ' class="dots" pointer-events="none"')
     rings = [ring(outline, point, frame, radius) for outline, points in finite for point in points]
     return inked(rings, RED, 2, ' pointer-events="all"')
 
@@ -178,23 +228,28 @@ def list_colours() -> List[Colours]:
 
 
 def one_drawn(found: Found, frame: Frame, wishes: Wishes) -> List[str]:
-    arrows = wishes.arrows
     drawn = ink_drawn(found, frame, path_colour) if wishes.ink else []
     drawn += boxes_drawn(found, frame, path_colour, 0, Counter())
-    drawn += [lines_drawn(outline.lines, frame, path_colour(outline.path), 2, f"path {outline.path}", arrows)
-              for outline in found.outlines]
-    return drawn + [rings_drawn(found, frame, 8)]
+    colours = [path_colour(outline.path) for outline in found.outlines]
+    layers = [Layer(outline.lines, colour, 2, (colour, STRONG)) for outline, colour in zip(found.outlines, colours)]
+    return drawn + layers_drawn(layers, frame, wishes) + [rings_drawn(found, frame, 8)]
+
+
+def layers_of_two(first: Found, second: Found) -> Iterator[Layer]:
+    """Of each list what both have, and what only it has."""
+    for side, (found, other) in enumerate(((first, second), (second, first))):
+        name = ("first", "second")[side]
+        shared, alone = shared_and_alone(found.lines, other.lines)
+        yield Layer(shared, *SHARED[side], ALONE[side], f"{name}, ", ": in both")
+        yield Layer(alone, *ALONE[side], ALONE[side], f"{name}, ", f": only in the {name}")
 
 
 def two_drawn(first: Found, second: Found, frame: Frame, wishes: Wishes) -> List[str]:
-    arrows, drawn = wishes.arrows, []
+    drawn: List[str] = []
     taken: "Counter[Place]" = Counter()
     for found, colour in zip((first, second), list_colours()):
         drawn += ink_drawn(found, frame, colour) if wishes.ink else []
     for side, (found, colour) in enumerate(zip((first, second), list_colours())):
         drawn += boxes_drawn(found, frame, colour, side, taken)
-    for side, (found, other) in enumerate(((first, second), (second, first))):
-        shared, alone = shared_and_alone(found.lines, other.lines)
-        drawn += [lines_drawn(shared, frame, *SHARED[side], "in both", arrows),
-                  lines_drawn(alone, frame, *ALONE[side], f"only in the {('first', 'second')[side]}", arrows)]
+    drawn += layers_drawn(list(layers_of_two(first, second)), frame, wishes)
     return drawn + [rings_drawn(first, frame, 11), rings_drawn(second, frame, 7)]

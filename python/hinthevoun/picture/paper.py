@@ -3,11 +3,12 @@ import math
 from typing import Callable, List, NamedTuple, Optional, Tuple
 
 from .counting import Found, Outline
-from .drawing import (ALONE, GREY, INK, RED, SHARED, Wishes, frame_of, inked, one_drawn, pair, path_colour, rectangle,
-                      text, two_drawn, way)
+from .drawing import (ALONE, GREY, INK, RED, SHARED, STRONG, Wishes, frame_of, inked, one_drawn, pair, pale,
+                      path_colour, rectangle, text, two_drawn, way)
 from .geometry import Frame, round_length
 from .ink import is_inked, rule_of
-from .telling import about_boxes, about_left, about_lines, about_outline, lacks_of, notes_of, shown, told_and_left
+from .telling import (about_boxes, about_left, about_lines, about_outline, about_tag, lacks_of, notes_of, shown,
+                      told_and_left)
 
 MARGIN, ROW, SWATCH = 30, 20, 34
 LONGEST_BAR = 200
@@ -57,13 +58,25 @@ def outline_rows(found: Found, wishes: Wishes, mark_of: Callable[[int], str], be
     return rows
 
 
+def tag_rows(found: Found, wishes: Wishes, mark_of: Callable[[int], str], before: str = "") -> List[Row]:
+    """What is said of the tag that is asked for, if there is one; a tag's lines are all of one path."""
+    if wishes.tag is None:
+        return []
+    drawn = found.lines.drawn_by(wishes.tag)
+    words = before + about_tag(found, wishes.tag)
+    return [Row(words, weight="bold", mark=mark_of(found.lines.paths[drawn[0]]) if drawn else "")]
+
+
 def one_rows(found: Found, wishes: Wishes) -> List[Row]:
-    return outline_rows(found, wishes, lambda path: sample((path_colour(path), 2)))
+    return (outline_rows(found, wishes, lambda path: sample((path_colour(path), 2)))
+            + tag_rows(found, wishes, lambda path: sample((path_colour(path), STRONG))))
 
 
 def two_rows(first: Found, second: Found, wishes: Wishes) -> List[Row]:
     rows = outline_rows(first, wishes, lambda _: sample(ALONE[0]), "first, ")
     rows += outline_rows(second, wishes, lambda _: sample(ALONE[1]), "second, ")
+    rows += tag_rows(first, wishes, lambda _: sample(ALONE[0]), "first, ")
+    rows += tag_rows(second, wishes, lambda _: sample(ALONE[1]), "second, ")
     marks = sample(*SHARED), sample(ALONE[0]), sample(ALONE[1])
     rows += [Row(words, mark=mark) for words, mark in zip(about_lines(first, second), marks)]
     return rows + [Row(about_boxes(first, second)), Row("larger rings are the first's", GREY)]
@@ -84,6 +97,8 @@ def key_rows(frame: Frame, wishes: Wishes) -> List[Row]:
     if wishes.ink:
         mark = f'<g fill="{GREY}" fill-opacity="0.3">{rectangle((4, -6), (SWATCH - 10, 6))}</g>'
         rows.append(Row("ink: what a fill of the path covers, by its own rule", GREY, mark=mark))
+    if wishes.tag is not None:
+        rows.append(Row("pale: a line of another tag", GREY, mark=sample((pale(GREY), 2))))
     if wishes.arrows:
         head = f'<g fill="{GREY}">{way((20, 0), (8, 5), (8, -5), end="z")}</g>'
         rows.append(Row("the way a line runs, from start to end", GREY, mark=head))

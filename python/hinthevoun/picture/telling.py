@@ -1,6 +1,6 @@
 """Telling: what was found in lists, in sentences that go to the picture and to standard error."""
 from itertools import zip_longest
-from typing import Collection, List, Tuple
+from typing import Collection, List, Optional, Sequence, Tuple
 
 from ..columns import finite_points, place_of
 from ..saying import count
@@ -15,6 +15,24 @@ MOST_GAPS = 2000  # both ends of flatlist's 1,000 lines; more would take long
 def shown(x: float) -> str:
     """Nine digits tell every f32 from every other."""
     return f"{x:.9g}"
+
+
+def spanned(thing: str, numbers: Sequence[int]) -> str:
+    """`tag 12`, or `tags 12 to 950`."""
+    least, greatest = min(numbers), max(numbers)
+    return f"{thing} {least}" if least == greatest else f"{thing}s {least} to {greatest}"
+
+
+def about_drawers(paths: Sequence[int], tags: Sequence[int]) -> str:
+    """Whose lines these are. A tag of 0 is one that the list does not tell."""
+    return f"{spanned('path', paths)}, {spanned('tag', tags) if any(tags) else 'tag not told'}"
+
+
+def about_tag(found: Found, tag: int) -> str:
+    """How many lines a tag drew, and of how many that is not known."""
+    drawn, untold = len(found.lines.drawn_by(tag)), found.lines.tags.count(0)
+    rest = f"; of {count(untold, 'line')} the list does not tell the tag: flatten the sheet again" if untold else ""
+    return f"tag {tag} drew {count(drawn, 'line') if drawn else 'no line'}{rest}"
 
 
 def about_gaps(points: Collection[int]) -> str:
@@ -82,8 +100,9 @@ def about_boxes(first: Found, second: Found) -> str:
     return f"boxes differ at path {', '.join(differ)}" if differ else "the boxes are the same"
 
 
-def sentences_of(lists: List[Found]) -> List[str]:
-    """All that is said of one list or two."""
+def sentences_of(lists: List[Found], tag: Optional[int]) -> List[str]:
+    """All that is said of one list or two, where one tag may be asked for."""
     said = [f"{found.name}: {sentence}" for found in lists
-            for sentence in about_outlines(found.outlines) + lacks_of(found) + notes_of(found)]
+            for sentence in [*about_outlines(found.outlines), *([] if tag is None else [about_tag(found, tag)]),
+                             *lacks_of(found), *notes_of(found)]]
     return said + [", ".join(about_lines(*lists)), about_boxes(*lists)] if len(lists) == 2 else said

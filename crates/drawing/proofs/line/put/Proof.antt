@@ -22,7 +22,7 @@ slice-write-lines-5 c = simp length-set (omega arith)
 returns : tie.Need-returns
 returns c =
     let a = c .before .before .before .before .before .args in
-    six-words (now (a .lines)) (a .at) (a .path) (a .p0) (a .p1) (c .before .before .before .word-of .ensures) (c .before .before .word-of2 .ensures) (c .before .word-of3 .ensures) (c .word-of4 .ensures)
+    six-words (now (a .lines)) (a .at) (a .path) (a .tag) (a .p0) (a .p1) (c .before .before .before .word-of .ensures) (c .before .before .word-of2 .ensures) (c .before .word-of3 .ensures) (c .word-of4 .ensures)
 
 pub put-spec : {M : Type 1} → statement M
 put-spec =

@@ -54,7 +54,7 @@ use Rattle.flatten.specs.declared.call.Layout.{Layout}
 use Rattle.flatten.specs.declared.call.Answer.{Answer}
 use Rattle.flatten.specs.Boxes.{changedAt}
 use Rattle.flatten.specs.Step.{stepped, stepOf}
-use Rattle.flatten.specs.Call.{State, taken, firstTurn, startAt, startOf, next, after, answerOf, toldOf, outcome, outcomeOf, callOf}
+use Rattle.flatten.specs.Call.{State, taken, firstTurn, startAt, startOf, next, after, answerOf, toldOf, outcome, outcomeOf, callOf, afterBy, callBy}
 use Rattle.flatten.specs.CallLaws.{moves, one-more, stays}
 use Rattle.flatten.proofs.Again.{LentAgain, lends-again-at, comes-back-at}
 use Rattle.flatten.proofs.boxes.PathBox as P
@@ -106,7 +106,7 @@ at-most layout n r e = rw e (few-tags (ltb n (layout .«tag_base») || ltb n (la
 
 module _ (layout : Layout) (scene prefixes : List ℕ) (s₀ : State) where
   none-yet : s₀ ≡ after 0 layout scene prefixes s₀
-  unfolding after
+  unfolding afterBy
   none-yet = refl
 
   -- a turn: what `step` and `merge_at` say is the next state
@@ -127,7 +127,7 @@ module _ (layout : Layout) (scene prefixes : List ℕ) (s₀ : State) where
 -- the last state is what the contract says
 whole-call : (layout : Layout) (scene prefixes : List ℕ) (ps : List PathBox) (ws : List ℕ) (s : State) (r : Answer) → s ≡ after (layout .«n_wg» * 256) layout scene prefixes (starting (startOf layout (length scene)) ps ws)
     → r ≡ answerOf (s .turn) → outcome (toldOf r) (s .boxes) (s .lines) ≡ callOf layout scene prefixes ps ws
-unfolding callOf
+unfolding callBy
 whole-call layout scene prefixes ps ws s r e e₁ = ap (λ (a : Answer). outcome (toldOf a) (s .boxes) (s .lines)) e₁ ∙ ap outcomeOf e
 
 -- a turn's machine value, written out

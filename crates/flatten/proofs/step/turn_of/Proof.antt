@@ -6,7 +6,7 @@ use Rattle.flatten.proofs.step.turn_of.Tie as tie
 
 returns : tie.Need-returns
 unfolding turnOf
-returns c = rw (c .before .before .before .before .before .drawn .given .1, c .wrapping-add-u64 .ensures, c .before .one-less .ensures, c .before .before .change-of .ensures)
+returns c = rw (c .before .before .before .before .before .drawn .given .1, c .next-index .ensures, c .before .one-less .ensures, c .before .before .change-of .ensures)
 
 returns-2 : tie.Need-returns-2
 returns-2 c = rw (c .before .before .drawn2 .given .1) (c .stopped-at .ensures)
