@@ -144,6 +144,12 @@ class Waiting(unittest.TestCase):
         assert time.monotonic() - began < 10
         same(os.listdir(folder), ["a.sheet"])
 
+    def test_ctrl_c_stays_ignored_where_it_was(self):
+        code = ("import signal; signal.signal(signal.SIGINT, signal.SIG_IGN)\n"
+                "from hinthevoun.interrupting import stops_at_once\n"
+                "with stops_at_once():\n    print(signal.getsignal(signal.SIGINT) == signal.SIG_IGN)")
+        same(subprocess.run([sys.executable, "-c", code], cwd=PACKAGE, stdout=subprocess.PIPE).stdout, b"True\n")
+
 
 class Library(unittest.TestCase):
     """Where the library is looked for."""
