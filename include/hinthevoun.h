@@ -103,6 +103,7 @@ float hinth_acos(float x);
  *   6  there is no room for the next line, or the count of lines would be 2^32
  *   7  a join is drawn and the style's two join bits are 3
  *   8  the count of a curve's pieces is not a number
+ *   9  the transform of a segment has a NaN or an infinity among its six numbers; no line of that segment is stored
  */
 
 /*

@@ -72,15 +72,36 @@ static uint32_t flatten(uint32_t data_base, size_t n_boxes, size_t line_words, s
                          line_words, out, out_len);
 }
 
-/* a stroke that is moved by NaN starts nowhere; one of width NaN has no count */
+/* none of a transform's six numbers may be a NaN or an infinity; a large one is another matter */
+static void bad_transforms(void) {
+    static const uint32_t bad[3] = {0x7f800000u, 0xff800000u, 0x7fc00000u};
+    for (size_t i = 0; i < 6; i++)
+        for (size_t k = 0; k < 3; k++) {
+            uint32_t sound = triangle[TRANSFORM + i];
+            triangle[TRANSFORM + i] = bad[k];
+            CHECK(flatten(64, 1, 19, 3) == 9 && out[0] == 2 && out[1] == 0 && out[2] == 0 && out[3] == MARK && stored(0));
+            CHECK(box.x0 == INT32_MAX && box.draw_flags == 7 && box.trans_ix == 7);
+            triangle[TRANSFORM + i] = sound;
+        }
+    triangle[TRANSFORM] = 0x7f7fffffu;
+    CHECK(flatten(64, 1, 19, 3) == 8 && out[0] == 2);
+    triangle[TRANSFORM] = 0x3f800000u;
+}
+
+/* a stroke whose marker leads to NaN has a cap that starts nowhere; one of width NaN has no count */
 static void not_numbers(void) {
+    static const uint32_t stroke[80] = {[0] = 0x0e094020u, [1] = 0x00000010u,
+                                        [66] = 0x40400000u, [70] = 0x7fc00000u,
+                                        [72] = 0x3f800000u, [75] = 0x3f800000u,
+                                        [78] = 0x80000000u, [79] = 0x3f800000u};
+    for (size_t out_len = 1; out_len <= 3; out_len++) {
+        prepare();
+        CHECK(hinth_scan(stroke, 80, 0, prefixes, 4 * SCENE_LEN, out, 0) == 0);
+        CHECK(hinth_flatten(1, 0, 64, 72, 78, stroke, 80, prefixes, 4 * SCENE_LEN, &box, 1, lines, 19, out, out_len) == 5);
+        CHECK(out_len < 2 ? out[0] == MARK : out[0] == 3 && out[1] == 3);
+        CHECK(out[2] == (out_len < 3 ? MARK : 1) && out[3] == MARK);
+    }
     triangle[STYLE] = 0x80000000u;
-    triangle[STYLE + 1] = 0x3f800000u;
-    triangle[TRANSFORM + 4] = 0x7fc00000u;
-    CHECK(flatten(64, 1, 19, 3) == 5 && out[0] == 2 && out[1] == 0 && out[2] == 1 && out[3] == MARK && stored(0));
-    CHECK(flatten(64, 1, 19, 2) == 5 && out[0] == 2 && out[1] == 0 && out[2] == MARK);
-    CHECK(flatten(64, 1, 19, 1) == 5 && out[0] == MARK);
-    triangle[TRANSFORM + 4] = 0;
     triangle[STYLE + 1] = 0x7fc00000u;
     CHECK(flatten(64, 1, 19, 3) == 8 && out[0] == 2 && out[1] == 0 && out[2] == 0 && stored(0));
     triangle[STYLE] = 0;
@@ -105,6 +126,7 @@ static void paths(void) {
     CHECK(flatten(64, 0, 19, 2) == 4 && out[0] == 5 && out[1] == 3);
     CHECK(stored(18) && box.x0 == INT32_MAX);
     CHECK(flatten(SCENE_LEN + 1, 1, 19, 2) == 1 && out[0] == 0 && out[1] == 0 && stored(0));
+    bad_transforms();
     not_numbers();
 }
 

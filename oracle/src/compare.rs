@@ -144,7 +144,7 @@ fn show_smallest(seed: u64, index: u64) {
 #[derive(Default)]
 struct Tally {
     /// By the source's number.
-    numbers: [u64; 9],
+    numbers: [u64; 10],
     /// Of those with 5, at the start of a line and at its end.
     ends: [u64; 2],
     /// Refused behind a line.
@@ -217,7 +217,7 @@ pub fn compare(seed: u64, scenes: u64, with_names: bool) -> bool {
         show_smallest(seed, *index);
     }
     let [accepted, refused @ ..] = sum.numbers;
-    println!("accepted {accepted}; refused with 1 to 8 {refused:?}, {} of them behind a line", sum.late);
+    println!("accepted {accepted}; refused with 1 to 9 {refused:?}, {} of them behind a line", sum.late);
     println!("5 at the start of a line {}, at its end {}", sum.ends[0], sum.ends[1]);
     println!("{} lines", sum.lines);
     println!("{scenes} scenes of seed {seed}, {} differ", sum.differ.len());

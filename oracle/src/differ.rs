@@ -74,7 +74,7 @@ pub fn show_functions() {
 pub fn show_calls() {
     show_call("other lines than with std's mathematics", &lines_differ);
     show_call("accepted by the Rust without overflow checks", &address_wraps);
-    for number in 1..=8 {
+    for number in 1..=9 {
         let ends = if number == 5 { 1..=2 } else { 0..=0 };
         for stop in ends.map(|end| Stop { number, end }) {
             show_call(&format!("refusal {number}, end {}", stop.end), &|given| given.told(0).stop == stop);

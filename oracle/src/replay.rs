@@ -48,10 +48,10 @@ fn print(given: &Given, told: &Told) {
     let of_scan = [scan_number, scan_count as u32, hash(&scanned)];
     let of_call = [told.stop.word(), told.tag as u32, told.count as u32, hash(&told.lines), hash(&box_words(&told.boxes))];
     println!("{}", hex(&[&bases[..], &lent.map(|n| n as u32), &of_scan, &of_call].concat()));
-    for part in [&given.scene, &patches, &box_words(&given.boxes)] {
-        if !part.is_empty() {
-            runs(part).chunks(16).for_each(|line| println!("{}", line.join(" ")));
-        }
+    // Patches are read two words at a time, so that no run may go from one to the next.
+    let pairs = patches.chunks(2).flat_map(runs).collect();
+    for part in [runs(&given.scene), pairs, runs(&box_words(&given.boxes))] {
+        part.chunks(16).for_each(|line| println!("{}", line.join(" ")));
     }
 }
 

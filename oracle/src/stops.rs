@@ -7,21 +7,26 @@ use std::panic::{self, AssertUnwindSafe, PanicHookInfo};
 use std::process;
 
 /// What the line has in it, and the number.
-const CAUSES: [(&str, u32); 13] = [
+const CAUSES: [(&str, u32); 14] = [
     ("&scene[config.layout.path_tag_base", 1),
     ("&scene[config.layout.path_data_base", 1),
     ("pathtags[ix >> 2]", 2),
-    ("scene[(config.layout.style_base", 2),
+    (STYLE_FLAGS, 2),
+    ("scene[(config.layout.style_base + style_ix + 1)", 2),
     ("transform_base + ix * 6", 2),
     ("data[base + i]", 2),
     ("pathdata[ix as usize", 2),
     ("tag_monoids[ix >> 2]", 3),
-    ("&mut path_bboxes[path_ix as usize]", 4),
+    (BOX, 4),
     ("assert!(!n.is_nan())", 8),
     ("assert!(", 5),
     ("lines[line_ix] =", 6),
     ("unreachable!()", 7),
 ];
+
+/// Behind the tag itself, these two are looked at before its transform.
+const STYLE_FLAGS: &str = "scene[(config.layout.style_base.wrapping_add(style_ix))";
+const BOX: &str = "&mut path_bboxes[path_ix as usize]";
 
 /// A refusal's number and, with 5, the line's end that is no number: 1 the start, 2 the end; else 0.
 #[derive(Clone, Copy, Debug, PartialEq, Eq)]
@@ -42,6 +47,7 @@ impl Stop {
 
 thread_local! {
     static STOP: Cell<Stop> = const { Cell::new(Stop::NONE) };
+    static BEFORE_TRANSFORM: Cell<bool> = const { Cell::new(false) };
 }
 
 /// Before the first point of a line that is refused, and before the second.
@@ -56,16 +62,16 @@ fn end_of(panic: &PanicHookInfo) -> u32 {
     if start.contains("NaN") { 1 } else { 2 }
 }
 
-/// A file and a line of it, counted from 1, and the number of a panic there.
-type Places = HashMap<(&'static str, u32), u32>;
+/// A file and a line of it, counted from 1, and of a panic there what the line has in it, and the number.
+type Places = HashMap<(&'static str, u32), (&'static str, u32)>;
 
 fn places() -> Places {
     let mut places = Places::new();
     let texts = published::TEXTS.into_iter().chain(shipped::TEXTS);
     for (file, text) in texts.chain([published::TAG_BY_TAG]) {
         for (line, i) in text.lines().zip(1..) {
-            if let Some((_, number)) = CAUSES.iter().find(|(part, _)| line.contains(part)) {
-                places.insert((file, i), *number);
+            if let Some(cause) = CAUSES.iter().find(|(part, _)| line.contains(part)) {
+                places.insert((file, i), *cause);
             }
         }
     }
@@ -75,7 +81,10 @@ fn places() -> Places {
 /// A panic anywhere else ends the program.
 fn note(places: &Places, panic: &PanicHookInfo) {
     match panic.location().and_then(|place| places.get(&(place.file(), place.line()))) {
-        Some(&number) => STOP.set(Stop { number, end: if number == 5 { end_of(panic) } else { 0 } }),
+        Some(&(part, number)) => {
+            STOP.set(Stop { number, end: if number == 5 { end_of(panic) } else { 0 } });
+            BEFORE_TRANSFORM.set([STYLE_FLAGS, BOX].contains(&part));
+        }
         None => {
             eprintln!("{panic}");
             process::exit(3);
@@ -95,4 +104,9 @@ pub fn stop_of(call: impl FnOnce()) -> Stop {
         Ok(()) => Stop::NONE,
         Err(_) => STOP.get(),
     }
+}
+
+/// Of the last panic, whether it was at the style or the box of a tag.
+pub fn before_transform() -> bool {
+    BEFORE_TRANSFORM.get()
 }

@@ -100,11 +100,16 @@ impl Given {
     /// The tag that drew each of the lines stored: the source is asked how many lines the first tags store, between two
     /// numbers of tags for as long as that differs. A good guess makes it quick.
     pub fn line_tags(&self, count: usize, guess: &[u32]) -> Vec<u32> {
+        self.line_tags_of(self.tags(), count, guess)
+    }
+
+    /// The same of the first tags.
+    fn line_tags_of(&self, first: u64, count: usize, guess: &[u32]) -> Vec<u32> {
         let mut cuts: Vec<_> = guess.iter().flat_map(|tag| [u64::from(*tag), u64::from(*tag) + 1]).collect();
         cuts.sort_unstable();
         cuts.dedup();
         let mut tags = Vec::with_capacity(count);
-        self.divide((0, 0), (self.tags(), count), &cuts, &mut tags);
+        self.divide((0, 0), (first, count), &cuts, &mut tags);
         tags
     }
 
@@ -145,7 +150,32 @@ impl Given {
         done
     }
 
+    /// What is to be told: what the source tells, but for a transform that is not finite.
     pub fn told(&self, guess: u64) -> Told {
+        self.told_at_bad_transform().unwrap_or_else(|| self.told_by_source(guess))
+    }
+
+    /// Refusal 9, which the source does not have, and what the source leaves when it has read the transform: the lines and
+    /// boxes of the tags before, and flags and transform index in the tag's own box. None where it stops before.
+    fn told_at_bad_transform(&self) -> Option<Told> {
+        let tag = self.bad_transform()?;
+        let (mut boxes, mut sheet) = (self.boxes.clone(), Sheet::new(&self.lines));
+        if self.call(published::reach_tag_by_tag, tag as u32, &mut boxes, sheet.lines()).0 != Stop::NONE {
+            return None;
+        }
+        let (mut then, mut drawn) = (self.boxes.clone(), Sheet::new(&self.lines));
+        let (stop, _) = self.call(published::reach_tag_by_tag, tag as u32 + 1, &mut then, drawn.lines());
+        if stop != Stop::NONE && stops::before_transform() {
+            return None;
+        }
+        for (b, then) in boxes.iter_mut().zip(then) {
+            (b.draw_flags, b.trans_ix) = (then.draw_flags, then.trans_ix);
+        }
+        let count = stored(sheet.lines()) as u64;
+        Some(Told { stop: Stop { number: 9, end: 0 }, tag, count, lines: sheet.words(), boxes })
+    }
+
+    fn told_by_source(&self, guess: u64) -> Told {
         let mut boxes = self.boxes.clone();
         let mut sheet = Sheet::new(&self.lines);
         let (stop, counted) = self.call(published::reach_main, self.n_wg, &mut boxes, sheet.lines());
@@ -161,9 +191,38 @@ impl Given {
     /// The same, where the second word of every line stored is the tag that drew it.
     pub fn told_with_tags(&self, guess: u64, guessed_tags: &[u32]) -> Told {
         let mut told = self.told(guess);
-        let tags = self.line_tags(told.count as usize, guessed_tags);
+        // The source goes on behind a transform that is not finite.
+        let first = if told.stop.number == 9 { told.tag } else { self.tags() };
+        let tags = self.line_tags_of(first, told.count as usize, guessed_tags);
         told.lines.chunks_exact_mut(6).zip(tags).for_each(|(line, tag)| line[1] = tag);
         told
+    }
+}
+
+/// The transforms that the tags name, read here.
+impl Given {
+    /// A tag and the index of its transform, if its word and its prefix are there.
+    fn tag(&self, ix: u64) -> Option<(u8, u32)> {
+        let word = *self.scene.get(self.tag_base as usize + ix as usize / 4)?;
+        let (prefixes, _) = self.prefixes.as_chunks::<4>();
+        let place = ix as usize % 4;
+        let tag = word.to_le_bytes()[place];
+        let prefix = if tag == 0 { PathMonoid::default() } else { prefix_of(prefixes.get(ix as usize / 4)?) };
+        let sums = prefix.combine(&PathMonoid::new(word & ((1 << (8 * place)) - 1)));
+        Some((tag, sums.trans_ix.wrapping_sub(1)))
+    }
+
+    /// Whether six words are there, and one of them is no finite number.
+    fn is_bad_transform(&self, ix: u32) -> bool {
+        let base = ix.checked_mul(6).and_then(|offset| offset.checked_add(self.transform_base));
+        let words = base.and_then(|base| self.scene.get(base as usize..base as usize + 6));
+        words.is_some_and(|words| words.iter().any(|word| !f32::from_bits(*word).is_finite()))
+    }
+
+    /// The first tag with a segment under a transform that is not finite. Behind a tag that is not there none counts.
+    fn bad_transform(&self) -> Option<u64> {
+        let there = (0..self.tags()).map_while(|ix| self.tag(ix));
+        there.zip(0..).find(|((tag, trans_ix), _)| tag & 3 != 0 && self.is_bad_transform(*trans_ix)).map(|(_, ix)| ix)
     }
 }
 
@@ -265,6 +324,51 @@ mod tests {
         given.scene[0] = 0x0101_4000;
         given.rescan();
         assert_eq!(given.answer(), (2, 2, 0));
+    }
+
+    /// A transform with such a number, in this place.
+    fn bad_transform(place: usize, number: f32) -> Given {
+        let mut given = triangle();
+        given.scene[68 + place] = number.to_bits();
+        given
+    }
+
+    #[test]
+    fn transforms() {
+        for place in 0..6 {
+            for number in [f32::NAN, f32::INFINITY, f32::NEG_INFINITY] {
+                assert_eq!(bad_transform(place, number).answer(), (9, 2, 0));
+            }
+        }
+        assert_eq!(bad_transform(0, f32::MAX).answer().0, 8);
+        // a second one, from the third line on
+        let mut given = bad_transform(0, 1.);
+        (given.scene[0], given.scene[1]) = (0x2101_4020, 0x0000_1005);
+        given.scene.extend([0x7fc0_0000; 6]);
+        given.style_base = 80;
+        given.rescan();
+        assert_eq!(given.answer(), (9, 4, 2));
+        assert_eq!(given.told_with_tags(0, &[]).lines[7], 3);
+    }
+
+    /// The box comes before a transform that is not finite, and the points behind it.
+    #[test]
+    fn around_a_bad_transform() {
+        let mut given = bad_transform(5, f32::NAN);
+        given.data_base = 76;
+        assert_eq!(given.answer(), (9, 2, 0));
+        // the first line is a path's too, of the even-odd rule
+        (given.scene[0], given.scene[74]) = (0x0111_4020, 0x4000_0000);
+        given.rescan();
+        assert_eq!(given.answer(), (9, 2, 0));
+        assert_eq!(given.told(0).boxes, [PathBbox { draw_flags: 1, ..EMPTY_BOX }]);
+        given.boxes.clear();
+        assert_eq!(given.answer(), (4, 2, 0));
+        // no segment reads it
+        given.scene[0] = 0x0000_4020;
+        given.scene[1] = 0;
+        given.rescan();
+        assert_eq!(given.answer(), (0, 0, 0));
     }
 
     #[test]

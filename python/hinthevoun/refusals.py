@@ -17,16 +17,19 @@ REASONS: Dict[int, Reason] = {
     3: Reason("a needed tag prefix is missing", "lend the prefixes that the scan fills, one for each word of tags"),
     4: Reason("a path tag names a box that is not there", "raise the sheet's sixth word, the number of boxes"),
     5: Reason("a line has a coordinate that is not a number",
-              "a transform or a point is damaged, or a number grew too large: look at the transform, and redraw that piece"),
+              "a point is damaged, or a number grew too large: redraw that piece"),
     6: Reason("no room for the next line", "lend more room, or part the drawing"),
     7: Reason("the join bits are 3 and a join is drawn", "choose bevel, miter or round again in the style"),
     8: Reason("the count of a curve's pieces is not a number",
-              "a point is damaged, or of a stroke the line width, or of a fill the transform: redraw that piece"),
+              "a point is damaged, or of a stroke the line width, or a number grew too large: redraw that piece"),
+    9: Reason("a transform has a NaN or an infinity among its six numbers",
+              "the transform is damaged: place or scale that part of the drawing again"),
 }
 
 # The same of refusal 5 where it is told which end of the line it was.
 ENDS: Dict[int, Reason] = {
-    1: Reason("the start of a line is not a number", "look at the transform first, then redraw that piece"),
+    1: Reason("the start of a line is not a number",
+              "a point is damaged, of a stroke perhaps the marker's, or a number grew too large: redraw that piece"),
     2: Reason("the end of a line is not a number",
               "a point is damaged, or a number grew too large: redraw that piece"),
 }

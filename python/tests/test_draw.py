@@ -554,7 +554,7 @@ class Lacks(unittest.TestCase):
 
     def test_each_refusal_is_noted_in_the_words_of_the_paper(self):
         table = re.findall(r"^\| ([0-9]+) \| (.*) \|$", (ROOT / "docs/FLATLIST.md").read_text(), re.M)
-        same(len(table), 8)
+        same(len(table), 9)
         for refusal, why in table:
             result = draw(f"refused {refusal} at 5\n" + "".join(side + "\n" for side in SIDES[:2]))
             note = f"refused {refusal} at tag 5: {why}; drawn up to there"

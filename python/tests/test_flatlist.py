@@ -71,7 +71,7 @@ class Beside(unittest.TestCase):
         firsts = [answer.split(b" ")[0:2] for answer in self.answers.values()]
         assert len(firsts) >= FEWEST + 2, len(firsts)
         refusals = {int(first[1]) for first in firsts if first[0] == b"refused"}
-        assert {1, 2, 4, 5, 6, 7, 8} <= refusals, refusals
+        assert {1, 2, 4, 5, 6, 7, 8, 9} <= refusals, refusals
         assert sum(first[0] == b"lines" for first in firsts) > 100
 
     def test_with_flatlists_room_all_is_the_same(self):

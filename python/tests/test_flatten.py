@@ -119,7 +119,11 @@ class Refused(unittest.TestCase):
                    "a read falls outside the scene, or an address passes 2^32 - 1; a point, transform or style is missing")
         self.check(triangle(boxes=0), "refused 4 at 5", "refused 4 at tag 5 (line 8, third pair of digits): "
                    "a path tag names a box that is not there; raise the sheet's sixth word")
-        for name, number, why in (("transform", 5, "the start of a line is not a number; look at the transform first"),
+        self.check((ROOT / "samples/broken-marker.sheet").read_text(), "refused 5 at 3",
+                   "refused 5 at tag 3 (line 7, first pair of digits): "
+                   "the start of a line is not a number; a point is damaged, of a stroke perhaps the marker's")
+        for name, number, why in (("transform", 9, "a transform has a NaN or an infinity among its six numbers; "
+                                                   "the transform is damaged"),
                                   ("point", 5, "the end of a line is not a number; a point is damaged"),
                                   ("curve", 8, "the count of a curve's pieces is not a number; a point is damaged"),
                                   ("width", 8, "the count of a curve's pieces is not a number; a point is damaged")):

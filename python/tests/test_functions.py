@@ -139,7 +139,8 @@ class Refusals(unittest.TestCase):
                 (TRIANGLE, {"prefix_words": 3}, (3, 0, 0)),
                 (triangle(boxes=0), {}, (4, 5, 3)),
                 (triangle(flags="80000000", width=nan), {}, (8, 2, 0)),
-                ((ROOT / "samples/broken-transform.sheet").read_text(), {}, (5, 2, 0)),
+                ((ROOT / "samples/broken-marker.sheet").read_text(), {}, (5, 3, 3)),
+                ((ROOT / "samples/broken-transform.sheet").read_text(), {}, (9, 2, 0)),
                 (TRIANGLE, {"room": 2}, (6, 4, 2)),
                 (triangle(flags="b0000000", width="3f800000"), {}, (7, 2, 2))):
             refusal = refused(lambda sheet=sheet, more=more: called(sheet, **more))
@@ -158,14 +159,15 @@ class Refusals(unittest.TestCase):
             same(Refusal(number, 7).reason, reason)
 
     def test_the_end_at_fault_is_told(self):
-        for name, number, end, why in (("transform", 5, 1, "the start of a line is not a number"),
-                                       ("point", 5, 2, "the end of a line is not a number"),
-                                       ("curve", 8, 0, "the count of a curve's pieces is not a number"),
-                                       ("width", 8, 0, "the count of a curve's pieces is not a number")):
+        for name, number, tag, end, why in (("marker", 5, 3, 1, "the start of a line is not a number"),
+                                            ("point", 5, 2, 2, "the end of a line is not a number"),
+                                            ("curve", 8, 2, 0, "the count of a curve's pieces is not a number"),
+                                            ("width", 8, 2, 0, "the count of a curve's pieces is not a number"),
+                                            ("transform", 9, 2, 0, REASONS[9].why)):
             sheet = (ROOT / f"samples/broken-{name}.sheet").read_text()
             refusal = refused(lambda sheet=sheet: called(sheet))
-            same((name, refusal.number, refusal.tag, refusal.end), (name, number, 2, end))
-            same(str(refusal), f"refused {number} at tag 2: {why}")
+            same((name, refusal.number, refusal.tag, refusal.end), (name, number, tag, end))
+            same(str(refusal), f"refused {number} at tag {tag}: {why}")
             assert refusal.reason.cure
 
     def test_one_that_is_not_known_is_still_told(self):

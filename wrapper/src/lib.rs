@@ -68,7 +68,7 @@ impl LineEnd {
     }
 }
 
-/// Why a call stopped: a number from 1 to 8, with 5 the line's end that is not a number (the start if neither is one),
+/// Why a call stopped: a number from 1 to 9, with 5 the line's end that is not a number (the start if neither is one),
 /// the index of the tag in turn, and how many whole lines are stored.
 #[derive(Clone, Copy, Debug, PartialEq, Eq)]
 pub struct Refusal {
@@ -89,7 +89,8 @@ impl std::fmt::Display for Refusal {
             (5, _) => "the start of a line is not a number",
             (6, _) => "no room for the next line",
             (7, _) => "the join is of no kind",
-            _ => "the count of a curve's pieces is not a number",
+            (8, _) => "the count of a curve's pieces is not a number",
+            _ => "a transform has a number that is not finite",
         };
         write!(f, "refused {} at {}: {why}", self.number, self.tag)
     }

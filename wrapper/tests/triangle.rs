@@ -130,14 +130,76 @@ fn a_stroke_needs_a_width() {
 const TRANSFORM: usize = LAYOUT.transform_base as usize;
 
 #[test]
-fn a_stroke_that_is_moved_by_no_number_has_a_bad_start() {
-    let mut scene = scene(CLOSED, [0x80000000, 1.0f32.to_bits()]);
-    scene[TRANSFORM + 4] = f32::NAN.to_bits();
-    let called = call(LAYOUT, &scene, 1, 18);
-    let refusal = called.answer.unwrap_err();
-    assert_eq!(refusal, Refusal { number: 5, end: Some(LineEnd::Start), tag: 2, lines: 0 });
-    assert_eq!(refusal.to_string(), "refused 5 at 2: the start of a line is not a number");
-    assert_eq!(called.lines, words(&[], 18));
+fn a_transform_is_finite() {
+    for bad in [f32::NAN, f32::INFINITY, f32::NEG_INFINITY] {
+        for place in 0..6 {
+            let mut scene = scene(CLOSED, [0, 0]);
+            scene[TRANSFORM + place] = bad.to_bits();
+            let called = call(LAYOUT, &scene, 1, 18);
+            let refusal = called.answer.unwrap_err();
+            assert_eq!(refusal, Refusal { number: 9, end: None, tag: 2, lines: 0 });
+            assert_eq!(refusal.to_string(), "refused 9 at 2: a transform has a number that is not finite");
+            assert_eq!(called.lines, words(&[], 18));
+        }
+    }
+}
+
+/// 4 and the transform that is not there come before 9, and 9 before points that are not there.
+#[test]
+fn a_bad_transform_has_its_place_in_the_order() {
+    let mut scene = scene(CLOSED, [0x40000000, 0]);
+    scene[TRANSFORM + 5] = f32::NAN.to_bits();
+    let number = |layout: Layout, n_boxes: usize| call(layout, &scene, n_boxes, 18).answer.unwrap_err().number;
+    assert_eq!(number(LAYOUT, 1), 9);
+    assert_eq!(number(Layout { data_base: 76, ..LAYOUT }, 1), 9);
+    assert_eq!(number(Layout { transform_base: 71, ..LAYOUT }, 1), 2);
+    scene[0] = 0x01114020;
+    let number = |n_boxes: usize| call(LAYOUT, &scene, n_boxes, 18).answer.unwrap_err().number;
+    assert_eq!([number(0), number(1)], [4, 9]);
+    // the line is a path's too: its flags and its transform stand in the box
+    assert_eq!(call(LAYOUT, &scene, 1, 18).boxes, [PathBox { draw_flags: 1, trans_ix: 0, ..PathBox::EMPTY }]);
+}
+
+/// What no segment reads may be anything, and large numbers are none of these.
+#[test]
+fn only_what_is_read_is_looked_at() {
+    let mut unread = scene([0x00004020, 0x00001000], [0, 0]);
+    unread[TRANSFORM] = f32::NAN.to_bits();
+    assert_eq!(call(LAYOUT, &unread, 1, 18).answer, Ok(0));
+    let mut large = scene(CLOSED, [0, 0]);
+    large[TRANSFORM] = f32::MAX.to_bits();
+    assert_eq!(call(LAYOUT, &large, 1, 18).answer.unwrap_err().number, 8);
+}
+
+/// The marker of a closed subpath: it reads its transform all the same.
+#[test]
+fn a_marker_that_draws_nothing_needs_a_transform() {
+    let mut scene = scene([0x00054020, 0x00000010], [0x80000000, 1.0f32.to_bits()]);
+    assert_eq!(call(LAYOUT, &scene, 1, 18).answer, Ok(0));
+    scene[TRANSFORM + 3] = f32::NEG_INFINITY.to_bits();
+    assert_eq!(call(LAYOUT, &scene, 1, 18).answer, Err(Refusal { number: 9, end: None, tag: 2, lines: 0 }));
+}
+
+/// Behind a line a second transform holds, which is none. The line is drawn to its end; only the marker reads that transform.
+#[test]
+fn a_neighbours_transform_is_not_read() {
+    let mut scene = scene([0x05214020, 0x00000010], [0x80000000, 1.0f32.to_bits()]);
+    scene.splice(74..74, [f32::NAN.to_bits(); 6]);
+    let called = call(Layout { style_base: 80, ..LAYOUT }, &scene, 1, 30);
+    assert_eq!(called.answer, Err(Refusal { number: 9, end: None, tag: 3, lines: 4 }));
+}
+
+/// An open line with its marker, whose last point is none: the cap at the stroke's start leads nowhere.
+#[test]
+fn a_marker_to_no_point_has_a_bad_start() {
+    let (layout, mut scene) = (Layout { transform_base: 72, style_base: 78, ..LAYOUT }, vec![0; 80]);
+    scene[..2].copy_from_slice(&[0x0e094020, 0x00000010]);
+    let numbers = [0., 0., 3., 0., 0., 0., f32::NAN, 0., 1., 0., 0., 1., 0., 0.];
+    scene[64..78].copy_from_slice(&numbers.map(f32::to_bits));
+    scene[78..].copy_from_slice(&[0x80000000, 1.0f32.to_bits()]);
+    let refusal = call(layout, &scene, 1, 24).answer.unwrap_err();
+    assert_eq!(refusal, Refusal { number: 5, end: Some(LineEnd::Start), tag: 3, lines: 3 });
+    assert_eq!(refusal.to_string(), "refused 5 at 3: the start of a line is not a number");
 }
 
 /// The second line leads nowhere, so the join between them has a start and no end.

@@ -17,7 +17,7 @@ use Rattle.spiral.specs.Euler.{fittedError, errorRatio, longChord, fromPointsDe
 use Rattle.spiral.specs.declared.util.Vec2.{Vec2}
 use Rattle.scene.specs.Words.{wordAt}
 use Rattle.scene.specs.Tags.{tagSums, plus, byteAt, sumsBelow, wordSums, tagData, prefixAt, withPrefix, tagIn, tagOf, sumsBefore, prefixes, filled, scanOf}
-use Rattle.scene.specs.Reading.{i16Of, i16Point, pointWords, pointAt, lineCubic, pointCount, raised, cubicOf, reaches, segmentOf, floatsAt, transformOf, flagsOf}
+use Rattle.scene.specs.Reading.{i16Of, i16Point, pointWords, pointAt, lineCubic, pointCount, raised, cubicOf, reaches, segmentOf, floatsAt, transformOf, allFinite, flagsOf}
 use Rattle.scene.specs.declared.tags.PathTagData.{PathTagData}
 use Rattle.drawing.specs.Sheet.{lowerOf, higherOf, emptyBox, boxWith, hasRoom, stored, drawOn, draw, drawAll}
 use Rattle.drawing.specs.Cubic.{cubicPoint, cubicDeriv, cubicAt}
@@ -26,7 +26,7 @@ use Rattle.curve.specs.Fit.{isShort, firstTip, tipAt, paramsOf, multiplierOf, i
 use Rattle.curve.specs.Curve.{lineOf, linesOf, rangeOf, rangeEnd, tipOf, isNear, accepted, walk, isPoint, sideEvents, deviceSide, eulerEvents}
 use Rattle.segment.specs.Segment.{fillEvents, shapeEvents}
 use Rattle.flatten.specs.Boxes.{freshBox, hasExtent, markedOf, mergedOf, changedOf, changedAt}
-use Rattle.flatten.specs.Tag.{_>>=_, boxed, headAt, shapeAt, eventsBy, eventsAt}
+use Rattle.flatten.specs.Tag.{_>>=_, boxed, headAt, finiteOnly, shapeAt, eventsBy, eventsAt}
 use Rattle.flatten.specs.Step.{drawnOf, changeOf, turnOf, refusedAt, stepFromBy, stepBy}
 use Rattle.flatten.specs.Call.{firstTurn, startOf, taken, answerOf, said, toldOf, Outcome, outcome, callOf, afterBy, callBy, onwardBy}
 use Rattle.flatten.specs.Whose.{aside, setAside}
@@ -128,7 +128,7 @@ abbrev pub drawn : Outcome
 drawn = outcome (said 0 0 3) (record { x0 = pos 0; y0 = pos 0; x1 = pos 3; y1 = pos 6; «draw_flags» = 0; «trans_ix» = 0 } ∷ []) (threeLines 2 3 4)
 
 computed : (map (λ r. r .given) table ≡ map (λ r. r .measured) table) × (triangle 0x20 (freshBox ∷ []) 3 ≡ drawn)
-unfolding table aside flatten ofBits ofInt toBits toSigned toUnsigned round neg add sub mul div lt le eq isNan signOf signed absOf halfUnits halfFields halfOf before maxOf clampOf wholeOf floorOf ceilOf sqrtOf twoThirdsOf hypotOf trig.boundedOf trig.sinNear trig.cosNear trig.reducedOf trig.curveOf trig.waveOf trig.sinOf trig.cosOf trig.angleOf trig.atan2Of addOf subOf mulOf dotOf lengthOf lengthSquaredOf mixOf angleOf hasNan eqOf identityOf applyOf fittedError errorRatio longChord fromPointsDerivs fromAngles wordAt tagSums plus byteAt sumsBelow wordSums tagData prefixAt withPrefix tagIn tagOf sumsBefore prefixes filled scanOf i16Of i16Point pointWords pointAt lineCubic pointCount raised cubicOf reaches segmentOf floatsAt transformOf flagsOf lowerOf higherOf emptyBox boxWith hasRoom stored drawOn draw drawAll cubicPoint cubicDeriv cubicAt isShort firstTip tipAt paramsOf multiplierOf integrandOf robustOf nFracOf fitOf lineOf linesOf rangeOf rangeEnd tipOf isNear accepted walk isPoint sideEvents deviceSide eulerEvents fillEvents shapeEvents freshBox hasExtent markedOf mergedOf changedOf changedAt _>>=_ boxed headAt shapeAt eventsBy eventsAt drawnOf changeOf turnOf refusedAt stepFromBy stepBy firstTurn startOf taken onwardBy afterBy answerOf numberOf endOf toldOf callBy
+unfolding table aside flatten ofBits ofInt toBits toSigned toUnsigned round neg add sub mul div lt le eq isNan signOf signed absOf halfUnits halfFields halfOf before maxOf clampOf wholeOf floorOf ceilOf sqrtOf twoThirdsOf hypotOf trig.boundedOf trig.sinNear trig.cosNear trig.reducedOf trig.curveOf trig.waveOf trig.sinOf trig.cosOf trig.angleOf trig.atan2Of addOf subOf mulOf dotOf lengthOf lengthSquaredOf mixOf angleOf hasNan eqOf identityOf applyOf fittedError errorRatio longChord fromPointsDerivs fromAngles wordAt tagSums plus byteAt sumsBelow wordSums tagData prefixAt withPrefix tagIn tagOf sumsBefore prefixes filled scanOf i16Of i16Point pointWords pointAt lineCubic pointCount raised cubicOf reaches segmentOf floatsAt transformOf allFinite flagsOf lowerOf higherOf emptyBox boxWith hasRoom stored drawOn draw drawAll cubicPoint cubicDeriv cubicAt isShort firstTip tipAt paramsOf multiplierOf integrandOf robustOf nFracOf fitOf lineOf linesOf rangeOf rangeEnd tipOf isNear accepted walk isPoint sideEvents deviceSide eulerEvents fillEvents shapeEvents freshBox hasExtent markedOf mergedOf changedOf changedAt _>>=_ boxed headAt finiteOnly shapeAt eventsBy eventsAt drawnOf changeOf turnOf refusedAt stepFromBy stepBy firstTurn startOf taken onwardBy afterBy answerOf numberOf endOf toldOf callBy
 computed = (refl, refl)
 
 -- ---- the two theorems

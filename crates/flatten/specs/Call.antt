@@ -106,7 +106,7 @@ callBy word layout scene prefixes ps ws =
 abbrev pub callOf : Layout → List ℕ → List ℕ → List PathBox → List ℕ → Outcome
 callOf = callBy tagWord
 
--- the call of the scope paper; `set-aside` says that it is the other one but for that word
+-- the call of the scope paper, with refusal 9 beside; `set-aside` says that it is the other one but for that word
 abbrev pub plainCallOf : Layout → List ℕ → List ℕ → List PathBox → List ℕ → Outcome
 plainCallOf = callBy noWord
 

@@ -9,3 +9,4 @@ pub mod Refusals
 pub mod Whose
 pub mod SetAside
 pub mod WhoseLaws
+pub mod BadTransform

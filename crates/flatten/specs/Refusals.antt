@@ -1,6 +1,7 @@
--- Before it draws, a tag is refused by number 2, 3 or 4 alone, and drawing by none of these: so number 1 is given only where a base lies past the scene's end. The count that an answer tells is that of the records stored. Assumes nothing.
-use Prim.Native.Nat.{ℕ, _+_, _*_, _%_, _^_}
+-- Before it draws, a tag is refused by number 2, 3, 4 or 9 alone, and drawing by none of these: so number 1 is given only where a base lies past the scene's end. The count that an answer tells is that of the records stored. Assumes nothing.
+use Prim.Native.Nat.{ℕ, _+_, _*_, _%_, _^_, _≤_}
 use mathlib.Core.Path.{_≡_, refl, sym, subst}
+use mathlib.Core.Logic.{_⊎_, inl, inr}
 use mathlib.Core.Bool.{Bool, true, false, _&&_, _||_, cond}
 use mathlib.Core.List.{List, [], _∷_}
 use native.Mathlib.Omega.{arith}
@@ -15,13 +16,13 @@ use Rattle.drawing.specs.Sheet.{Event, line, noCount, noJoin, Sheet, sheet, has
 use Rattle.drawing.specs.declared.line.Pen.{Pen}
 use Rattle.drawing.specs.declared.line.Drawn.{Drawn}
 use Rattle.drawing.specs.declared.line.Drawn.the-variants.{On, Stopped}
-use Rattle.scene.specs.Early.{Early, read, outside, no-prefix, no-box, either, tag-early, flags-early, width-early}
+use Rattle.scene.specs.Early.{Early, read, outside, no-prefix, no-box, bad-transform, either, tag-early, flags-early, width-early}
 use Rattle.scene.specs.Tags.{bit}
-use Rattle.scene.specs.Reading.{segmentOf, transformOf}
+use Rattle.scene.specs.Reading.{segmentOf, transformOf, allFinite}
 use Rattle.scene.specs.declared.tags.PathTagData.{PathTagData}
 use Rattle.segment.specs.Segment.{neighborOf, shapeEvents}
 use Rattle.segment.specs.declared.Shape.the-variants.{Nothing, Fill, StartCap, Stroke}
-use Rattle.flatten.specs.Tag.{_>>=_, inside, tagAt, pointsAt, transformAt, isPath, boxed, headAt, neighborAt, strokeBy, strokeAt, isStroke, shapeAt, eventsBy, eventsAt}
+use Rattle.flatten.specs.Tag.{_>>=_, inside, tagAt, pointsAt, finiteOnly, transformAt, isPath, boxed, headAt, neighborAt, strokeBy, strokeAt, isStroke, shapeAt, eventsBy, eventsAt}
 use Rattle.flatten.specs.Step.{drawnOf, freshPen, turnOf, refusedAt, behind, tagWord, stepFromBy, stepOf, stepBy}
 use Rattle.flatten.specs.Call.{firstTurn, startAt, startOf, State, taken, after, answerFor, answerOf, toldOf, callOf, callBy}
 use Rattle.flatten.specs.CallLaws.{carried}
@@ -41,10 +42,15 @@ bound (read a) k = k a
 bound outside k = outside
 bound no-prefix k = no-prefix
 bound no-box k = no-box
+bound bad-transform k = bad-transform
 
 insides : {A : Type 0} (b : Bool) (a : A) → Early (inside b a)
 insides true a = read a
 insides false a = outside
+
+finite-early : (z : List Float) → Early (finiteOnly z)
+unfolding finiteOnly
+finite-early z = either (allFinite z) (read z) bad-transform
 
 module _ (layout : Layout) (scene prefixes : List ℕ) where
   points-early : (stroke : Bool) (t : PathTagData) → Early (pointsAt layout scene stroke t)
@@ -55,7 +61,7 @@ module _ (layout : Layout) (scene prefixes : List ℕ) where
   transform-early : (h : Head) → Early (transformAt layout scene h)
   transform-early h =
       let r = transformOf scene (layout .«transform_base») (h .tag .monoid .«trans_ix») in
-      insides (r .found) (r .z)
+      bound (insides (r .found) (r .z)) finite-early
 
   box-early : (n : ℕ) (h : Head) → Early (boxed n h)
   unfolding boxed
@@ -95,46 +101,57 @@ module _ (layout : Layout) (scene prefixes : List ℕ) where
 
 -- ---- number 1
 
--- what is drawn is not refused by 1
-NotBase : Drawn → Type 0
-NotBase (On pen) = Unit {0}
-NotBase (Stopped why n) = numberOf why ≡ 1 → ⊥
+-- what is drawn is refused by 5 to 8 alone
+unfoldable Late : Drawn → Type 0
+Late (On pen) = Unit {0}
+Late (Stopped why n) = (5 ≤ numberOf why) × (numberOf why ≤ 8)
 
-stored-not-base : (s t u : Bool) (path : ℕ) (ws : List ℕ) (pen : Pen) (p q : Vec2) → NotBase (stored s t u path ws pen p q .drawn)
-unfolding NotBase stored numberOf
-stored-not-base true t u path ws pen p q = λ e. omega arith
-stored-not-base false true u path ws pen p q = λ e. omega arith
-stored-not-base false false false path ws pen p q = λ e. omega arith
-stored-not-base false false true path ws pen p q = tt
+stored-late : (s t u : Bool) (path : ℕ) (ws : List ℕ) (pen : Pen) (p q : Vec2) → Late (stored s t u path ws pen p q .drawn)
+unfolding Late stored numberOf
+stored-late true t u path ws pen p q = (omega arith, omega arith)
+stored-late false true u path ws pen p q = (omega arith, omega arith)
+stored-late false false false path ws pen p q = (omega arith, omega arith)
+stored-late false false true path ws pen p q = tt
 
-draw-not-base : (path : ℕ) (ws : List ℕ) (d : Drawn) (e : Event) → NotBase d → NotBase (draw path ws d e .drawn)
-unfolding NotBase draw drawOn numberOf
-draw-not-base path ws (On pen) (line p q) h = stored-not-base (hasNan p) (hasNan q) (hasRoom ws (pen .count)) path ws pen p q
-draw-not-base path ws (On pen) noCount h = λ e. omega arith
-draw-not-base path ws (On pen) noJoin h = λ e. omega arith
-draw-not-base path ws (Stopped why n) e h = h
+draw-late : (path : ℕ) (ws : List ℕ) (d : Drawn) (e : Event) → Late d → Late (draw path ws d e .drawn)
+unfolding Late draw drawOn numberOf
+draw-late path ws (On pen) (line p q) h = stored-late (hasNan p) (hasNan q) (hasRoom ws (pen .count)) path ws pen p q
+draw-late path ws (On pen) noCount h = (omega arith, omega arith)
+draw-late path ws (On pen) noJoin h = (omega arith, omega arith)
+draw-late path ws (Stopped why n) e h = h
 
-all-not-base : (path : ℕ) (s : Sheet) (es : List Event) → NotBase (s .drawn) → NotBase (drawAll path s es .drawn)
+all-late : (path : ℕ) (s : Sheet) (es : List Event) → Late (s .drawn) → Late (drawAll path s es .drawn)
 unfolding drawAll
-all-not-base path s [] h = h
-all-not-base path s (e ∷ es) h = all-not-base path (draw path (s .words) (s .drawn) e) es (draw-not-base path (s .words) (s .drawn) e h)
+all-late path s [] h = h
+all-late path s (e ∷ es) h = all-late path (draw path (s .words) (s .drawn) e) es (draw-late path (s .words) (s .drawn) e h)
+
+turn-late : (t : Turn) (h : Head) (d : Drawn) (n : ℕ) → Late d → toldOf (answerOf (turnOf t h d)) .number ≡ n → (n ≡ 0) ⊎ ((5 ≤ n) × (n ≤ 8))
+unfolding Late turnOf answerOf toldOf
+turn-late t h (On pen) n k e = inl (sym e)
+turn-late t h (Stopped why m) n k e = inr (omega (arith, k .0, e), omega (arith, k .1, e))
+
+-- where a tag draws, its number is none, or 5 to 8
+pub drawing-late : (t : Turn) (h : Head) (ws : List ℕ) (path : ℕ) (es : List Event) (n : ℕ)
+    → toldOf (answerOf (behind t h (drawnOf path (freshPen tagWord t) ws (found es)) .turn)) .number ≡ n → (n ≡ 0) ⊎ ((5 ≤ n) × (n ≤ 8))
+unfolding Late drawnOf
+drawing-late t h ws path es n e =
+    let s = sheet ws (On (freshPen tagWord t)) in
+    turn-late t h (drawAll path s es .drawn) n (all-late path s es tt) e
 
 abbrev NotOne : Turn → Type 0
 NotOne t = toldOf (answerOf t) .number ≡ 1 → ⊥
 
-turn-not-one : (t : Turn) (h : Head) (d : Drawn) → NotBase d → NotOne (turnOf t h d)
-unfolding NotBase turnOf answerOf toldOf
-turn-not-one t h (On pen) k = λ e. omega arith
-turn-not-one t h (Stopped why n) k = k
+not-late : (n : ℕ) → n ≡ 1 → (n ≡ 0) ⊎ ((5 ≤ n) × (n ≤ 8)) → ⊥
+not-late n e (inl h) = omega (arith, e, h)
+not-late n e (inr h) = omega (arith, e, h .0)
 
 drawing-not-one : (t : Turn) (h : Head) (ws : List ℕ) (path : ℕ) {r : Read (List Event)} → Early r → NotOne (behind t h (drawnOf path (freshPen tagWord t) ws r) .turn)
-unfolding NotBase drawnOf turnOf answerOf toldOf numberOf
-drawing-not-one t h ws path (read es) =
-    let s = sheet ws (On (freshPen tagWord t)) in
-    turn-not-one t h (drawAll path s es .drawn) (all-not-base path s es tt)
+unfolding drawnOf turnOf answerOf toldOf numberOf
+drawing-not-one t h ws path (read es) = λ e. not-late 1 refl (drawing-late t h ws path es 1 e)
 drawing-not-one t h ws path outside = λ e. omega arith
 drawing-not-one t h ws path no-prefix = λ e. omega arith
 drawing-not-one t h ws path no-box = λ e. omega arith
+drawing-not-one t h ws path bad-transform = λ e. omega arith
 
 head-not-one : {r : Read Head} → Early r → (layout : Layout) (scene prefixes ws : List ℕ) (t : Turn) → NotOne (stepFromBy tagWord r layout scene prefixes ws t .turn)
 unfolding stepFromBy refusedAt answerOf toldOf numberOf
@@ -142,6 +159,7 @@ head-not-one (read h) layout scene prefixes ws t = drawing-not-one t h ws (h .ta
 head-not-one outside layout scene prefixes ws t = λ e. omega arith
 head-not-one no-prefix layout scene prefixes ws t = λ e. omega arith
 head-not-one no-box layout scene prefixes ws t = λ e. omega arith
+head-not-one bad-transform layout scene prefixes ws t = λ e. omega arith
 
 step-not-one : (layout : Layout) (scene prefixes ws : List ℕ) (n : ℕ) (t : Turn) → NotOne (stepOf layout scene prefixes ws n t .turn)
 unfolding stepBy

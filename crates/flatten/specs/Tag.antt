@@ -5,7 +5,7 @@ use mathlib.Core.List.{List, []}
 use lib.Dec.{leb, eqb}
 use lib.Ieee.{Float, binary32, ofBits}
 use Rattle.refusals.specs.Refusals.{Read, found, refused}
-use Rattle.refusals.specs.declared.Refusal.the-variants.{Outside, NoBox}
+use Rattle.refusals.specs.declared.Refusal.the-variants.{Outside, NoBox, BadTransform}
 use Rattle.spiral.specs.declared.util.Vec2.{Vec2}
 use Rattle.drawing.specs.Sheet.{Event}
 use Rattle.segment.specs.Segment.{neighborOf, shapeEvents}
@@ -13,7 +13,7 @@ use Rattle.segment.specs.declared.Neighbor.{Neighbor}
 use Rattle.segment.specs.declared.Shape.{Shape}
 use Rattle.segment.specs.declared.Shape.the-variants.{Nothing, Fill, StartCap, Stroke}
 use Rattle.scene.specs.Tags.{bit, tagOf}
-use Rattle.scene.specs.Reading.{segmentOf, transformOf, flagsOf, widthOf}
+use Rattle.scene.specs.Reading.{segmentOf, transformOf, allFinite, flagsOf, widthOf}
 use Rattle.scene.specs.declared.tags.PathTagData.{PathTagData}
 use Rattle.flatten.specs.declared.call.Layout.{Layout}
 use Rattle.flatten.specs.declared.tag.Head.{Head}
@@ -75,10 +75,15 @@ pointsAt layout scene stroke t =
     let r = segmentOf (t .«tag_byte») stroke (t .monoid .«pathseg_offset») scene (layout .«data_base») in
     inside (r .found) (r .points)
 
+-- six numbers, or 9 where one of them is a NaN or an infinity
+unfoldable pub finiteOnly : List Float → Read (List Float)
+finiteOnly z = cond (allFinite z) (found z) (refused BadTransform)
+
+-- 2 where they are not there comes first
 abbrev pub transformAt : Layout → List ℕ → Head → Read (List Float)
 transformAt layout scene h =
     let r = transformOf scene (layout .«transform_base») (h .tag .monoid .«trans_ix») in
-    inside (r .found) (r .z)
+    inside (r .found) (r .z) >>= finiteOnly
 
 -- the next tag: its word and its prefix, and its points, read as a stroke's
 unfoldable pub neighborAt : Layout → List ℕ → List ℕ → ℕ → Read Neighbor

@@ -100,10 +100,10 @@ module _ (layout : Layout) (scene prefixes : List ℕ) where
   step-next ws n t = head-next (headAt layout scene prefixes n (t .tag)) ws t
 
   module _ (ps : List PathBox) (ws : List ℕ) where
-    abbrev start : State
+    abbrev pub start : State
     start = record { turn = startOf layout (length scene); boxes = ps; lines = ws }
 
-    abbrev done : ℕ → State
+    abbrev pub done : ℕ → State
     done m = after m layout scene prefixes start
 
     abbrev counted : ℕ → ℕ
@@ -117,9 +117,9 @@ module _ (layout : Layout) (scene prefixes : List ℕ) where
       by-then : k < counted (suc tag)
       told : getD (s .lines) (k * 6 + 1) 0 ≡ tag % 2 ^ 32
 
-    record After (m : ℕ) (s : State) : Type 0 where
+    pub record After (m : ℕ) (s : State) : Type 0 where
       room : s .turn .count * 6 ≤ length (s .lines)
-      turn : (s .turn .left ≡ 0) ⊎ (s .turn .tag ≡ m % 2 ^ 64)
+      pub turn : (s .turn .left ≡ 0) ⊎ (s .turn .tag ≡ m % 2 ^ 64)
       found : (k : ℕ) → k < s .turn .count → Found m s k
 
     longer : (m : ℕ) (s u : State) (k : ℕ) → getD (u .lines) (k * 6 + 1) 0 ≡ getD (s .lines) (k * 6 + 1) 0 → Found m s k → Found (suc m) u k
@@ -173,7 +173,7 @@ module _ (layout : Layout) (scene prefixes : List ℕ) where
           found = λ k l. absurd (omega (arith, start-count b layout));
         }
 
-    after-all : (m : ℕ) → After m (done m)
+    pub after-all : (m : ℕ) → After m (done m)
     unfolding afterBy startOf
     after-all zero = after-start (ltb (length scene) (layout .«tag_base») || ltb (length scene) (layout .«data_base»))
     after-all (suc m) = after-next m (ltb 0 (done m .turn .left)) refl (after-all m)

@@ -18,6 +18,7 @@ use drawing::line::Drawn;
 use drawing::line::IntBbox;
 use drawing::line::Pen;
 use refusals::Refusal;
+use scene::reading::all_finite;
 use scene::reading::read_path_segment;
 use scene::reading::read_transform;
 use segment::draw_shape;
@@ -47,21 +48,26 @@ fn draw_tag(
     }
     let is_stroke = head.flags / 0x8000_0000 % 2 == 1;
     let transform = read_transform(scene, layout.transform_base, tag.monoid.trans_ix);
+    let z = transform.z;
+    let finite = all_finite(z);
+    let offset = tag.monoid.pathseg_offset;
+    let segment = read_path_segment(tag.tag_byte, is_stroke, offset, scene, layout.data_base);
     if transform.found {
-        let offset = tag.monoid.pathseg_offset;
-        let segment = read_path_segment(tag.tag_byte, is_stroke, offset, scene, layout.data_base);
-        if segment.found {
-            let points = segment.points;
-            let z = transform.z;
-            let path = tag.monoid.path_ix;
-            return match read_shape(layout, scene, prefixes, ix, head) {
-                ShapeRead::Found(shape) => {
-                    let ink = Drawn::On(pen);
-                    draw_shape(lines, ink, path, head.flags, points, z, shape)
-                }
-                ShapeRead::Refused(why) => Drawn::Stopped(why, count),
-            };
+        if finite {
+            if segment.found {
+                let points = segment.points;
+                let path = tag.monoid.path_ix;
+                return match read_shape(layout, scene, prefixes, ix, head) {
+                    ShapeRead::Found(shape) => {
+                        let ink = Drawn::On(pen);
+                        draw_shape(lines, ink, path, head.flags, points, z, shape)
+                    }
+                    ShapeRead::Refused(why) => Drawn::Stopped(why, count),
+                };
+            }
+            return Drawn::Stopped(Refusal::Outside, count);
         }
+        return Drawn::Stopped(Refusal::BadTransform, count);
     }
     Drawn::Stopped(Refusal::Outside, count)
 }

@@ -8,7 +8,7 @@ use Rattle.refusals.specs.Refusals.{numberOf, endOf, Read, found, refuse
 use Rattle.refusals.specs.declared.LineEnd.{LineEnd}
 use Rattle.refusals.specs.declared.LineEnd.the-variants.{Start, End}
 use Rattle.refusals.specs.declared.Refusal.{Refusal}
-use Rattle.refusals.specs.declared.Refusal.the-variants.{BadBase, Outside, NoPrefix, NoBox, NotNumber, NoRoom, NoJoin, NoCount}
+use Rattle.refusals.specs.declared.Refusal.the-variants.{BadBase, Outside, NoPrefix, NoBox, NotNumber, NoRoom, NoJoin, NoCount, BadTransform}
 
 lineEnd : ℕ → LineEnd
 lineEnd zero = Start
@@ -25,7 +25,8 @@ named (suc (suc (suc (suc zero)))) e = NoBox
 named (suc (suc (suc (suc (suc zero))))) e = NotNumber (lineEnd e)
 named (suc (suc (suc (suc (suc (suc zero)))))) e = NoRoom
 named (suc (suc (suc (suc (suc (suc (suc zero))))))) e = NoJoin
-named (suc (suc (suc (suc (suc (suc (suc (suc n)))))))) e = NoCount
+named (suc (suc (suc (suc (suc (suc (suc (suc zero)))))))) e = NoCount
+named (suc (suc (suc (suc (suc (suc (suc (suc (suc n))))))))) e = BadTransform
 
 pub number-names : (why : Refusal) → named (numberOf why) (endOf why) ≡ why
 unfolding named lineEnd numberOf endOf
@@ -38,6 +39,7 @@ number-names (NotNumber End) = refl
 number-names NoRoom = refl
 number-names NoJoin = refl
 number-names NoCount = refl
+number-names BadTransform = refl
 
 pub number-some : (why : Refusal) → numberOf why ≡ 0 → ⊥
 unfolding numberOf
@@ -49,6 +51,7 @@ number-some (NotNumber at) e = omega arith
 number-some NoRoom e = omega arith
 number-some NoJoin e = omega arith
 number-some NoCount e = omega arith
+number-some BadTransform e = omega arith
 
 pub number-only : (why : Refusal) → Only (λ r. r ≡ numberOf why)
 number-only why = determined (numberOf why)

@@ -3,7 +3,7 @@ use Prim.Native.Nat.{ℕ}
 use mathlib.Core.List.{List, [], _∷_}
 use Rattle.refusals.specs.declared.LineEnd.the-variants.{Start, End}
 use Rattle.refusals.specs.declared.Refusal.{Refusal}
-use Rattle.refusals.specs.declared.Refusal.the-variants.{BadBase, Outside, NoPrefix, NoBox, NotNumber, NoRoom, NoJoin, NoCount}
+use Rattle.refusals.specs.declared.Refusal.the-variants.{BadBase, Outside, NoPrefix, NoBox, NotNumber, NoRoom, NoJoin, NoCount, BadTransform}
 
 -- 0 is no refusal
 unfoldable pub numberOf : Refusal → ℕ
@@ -15,6 +15,7 @@ numberOf (NotNumber at) = 5
 numberOf NoRoom = 6
 numberOf NoJoin = 7
 numberOf NoCount = 8
+numberOf BadTransform = 9
 
 -- which end of a line is no number: 1 the start, 2 the end; 0 where that is not why
 unfoldable pub endOf : Refusal → ℕ
@@ -27,6 +28,7 @@ endOf (NotNumber End) = 2
 endOf NoRoom = 0
 endOf NoJoin = 0
 endOf NoCount = 0
+endOf BadTransform = 0
 
 -- what is read: what was found, or why there is nothing
 pub data Read (A : Type 0) : Type 0 where

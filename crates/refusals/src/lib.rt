@@ -25,6 +25,8 @@ pub enum Refusal {
     NoJoin,
     // A subdivision count is NaN.
     NoCount,
+    // A transform has a NaN or an infinity among its six numbers.
+    BadTransform,
 }
 
 impl Refusal {
@@ -40,6 +42,7 @@ impl Refusal {
             Refusal::NoRoom => 6,
             Refusal::NoJoin => 7,
             Refusal::NoCount => 8,
+            Refusal::BadTransform => 9,
         }
     }
 
@@ -59,6 +62,7 @@ impl Refusal {
             Refusal::NoRoom => 0,
             Refusal::NoJoin => 0,
             Refusal::NoCount => 0,
+            Refusal::BadTransform => 0,
         }
     }
 }

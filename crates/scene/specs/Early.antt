@@ -1,11 +1,11 @@
--- A read is refused by 2 or 3, and by 4 where a box is looked for: what is drawn comes later. Assumes nothing.
+-- A read is refused by 2 or 3, by 4 where a box is looked for, and by 9 where a transform's numbers are: what is drawn comes later. Assumes nothing.
 use Prim.Native.Nat.{ℕ, _+_, _/_, _%_, _^_}
 use mathlib.Core.Bool.{Bool, true, false, cond}
 use mathlib.Core.List.{List}
 use lib.Dec.{ltb, eqb}
 use lib.ListN.{length, getD}
 use Rattle.refusals.specs.Refusals.{Read, found, refused}
-use Rattle.refusals.specs.declared.Refusal.the-variants.{Outside, NoPrefix, NoBox}
+use Rattle.refusals.specs.declared.Refusal.the-variants.{Outside, NoPrefix, NoBox, BadTransform}
 use Rattle.scene.specs.Words.{wordAt}
 use Rattle.scene.specs.Tags.{plus, byteAt, sumsBelow, tagData, prefixAt, withPrefix, tagIn, tagOf}
 use Rattle.scene.specs.Reading.{flagsOf, widthOf}
@@ -18,6 +18,7 @@ pub data Early {A : Type 0} : Read A → Type 0 where
   outside : Early (refused Outside)
   no-prefix : Early (refused NoPrefix)
   no-box : Early (refused NoBox)
+  bad-transform : Early (refused BadTransform)
 
 pub either : {A : Type 0} (b : Bool) {r s : Read A} → Early r → Early s → Early (cond b r s)
 either true h k = h
@@ -39,6 +40,7 @@ in-early (read w) place p = prefix-early (byteAt w place) (sumsBelow w place) (e
 in-early outside place p = outside
 in-early no-prefix place p = no-prefix
 in-early no-box place p = no-box
+in-early bad-transform place p = bad-transform
 
 pub tag-early : (scene : List ℕ) (base : ℕ) (lent : List ℕ) (ix : ℕ) → Early (tagOf scene base lent ix)
 unfolding tagOf

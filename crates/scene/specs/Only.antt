@@ -9,7 +9,8 @@ use Rattle.refusals.specs.Refusals.{numberOf, Read, found, refused, told}
 use Rattle.refusals.specs.Laws.{told-once}
 use Rattle.scene.specs.Words.{wordAt, wordRead}
 use Rattle.scene.specs.Tags.{plus, wordSums, tagRead, tagOf, Scan, scanTold, scanOf}
-use Rattle.scene.specs.Reading.{segmentOf, transformOf, flagsOf, widthOf}
+use lib.Ieee.{Float}
+use Rattle.scene.specs.Reading.{segmentOf, transformOf, allFinite, flagsOf, widthOf}
 use Rattle.scene.specs.declared.words.Word.{Word}
 use Rattle.scene.specs.declared.words.Word.the-variants.{At, Outside}
 use Rattle.scene.specs.declared.tags.PathMonoid.{PathMonoid}
@@ -58,6 +59,9 @@ read-path-segment-only tag stroke offset scene base = determined (segmentOf tag 
 
 pub read-transform-only : (scene : List ℕ) (base ix : ℕ) → Only (λ r. r ≡ transformOf scene base ix)
 read-transform-only scene base ix = determined (transformOf scene base ix)
+
+pub all-finite-only : (z : List Float) → Only (λ r. r ≡ allFinite z)
+all-finite-only z = determined (allFinite z)
 
 pub style-flags-only : (scene : List ℕ) (base ix : ℕ) → Only (λ r. told (wordRead r) ≡ told (flagsOf scene base ix))
 style-flags-only scene base ix = one-word (flagsOf scene base ix)

@@ -6,6 +6,7 @@ use lib.ListN.{length, getD, replicate}
 use lib.Dec.{leb, ltb, eqb}
 use lib.IntN.{pos}
 use lib.Ieee.{Float, binary32, ofBits, ofInt, neg}
+use lib.Ieee.Scale.{finite}
 use Rattle.laws.specs.Binary32.{_⊘_, whole}
 use Rattle.spiral.specs.Util.{newOf, mixOf}
 use Rattle.spiral.specs.declared.util.Vec2.{Vec2}
@@ -100,6 +101,11 @@ transformOf scene base ix =
     cond (ltb (base + ix * 6) (2 ^ 32) && leb (base + ix * 6 + 6) (length scene))
     (record { found = true; z = floatsAt scene (base + ix * 6) })
     (record { found = false; z = replicate 6 (whole 0) })
+
+-- whether each number of a list is neither a NaN nor an infinity
+unfoldable pub allFinite : List Float → Bool
+allFinite [] = true
+allFinite (x ∷ xs) = finite x && allFinite xs
 
 -- the address of a style's flags wraps
 unfoldable pub flagsOf : List ℕ → ℕ → ℕ → Read ℕ

@@ -2,9 +2,10 @@
 ghost use mathlib.Core.Path.{_≡_};
 ghost use Prim.Native.Nat.{_+_, _*_, _%_, _≤_};
 ghost use lib.ListN.{length};
+ghost use lib.Ieee.Scale.{finite};
 ghost use Rattle.refusals.specs.Refusals.{told};
 ghost use Rattle.scene.specs.Words.{wordRead};
-ghost use Rattle.scene.specs.Reading.{floatAt, i16Of, f32Point, i16Point, pointWords, pointAt, lineCubic, quadCubic, wide, marker, pointCount, cubicOf, reaches, segmentOf, floatsAt, transformOf, flagsOf, widthOf};
+ghost use Rattle.scene.specs.Reading.{floatAt, i16Of, f32Point, i16Point, pointWords, pointAt, lineCubic, quadCubic, wide, marker, pointCount, cubicOf, reaches, segmentOf, floatsAt, transformOf, allFinite, flagsOf, widthOf};
 use crate::words::Word;
 use crate::words::word_at;
 use spiral::util::Vec2;
@@ -209,6 +210,31 @@ pub fn read_transform(scene: &[u32], transform_base: u32, trans_ix: u32) -> Tran
         found: false,
         z: [0.0, 0.0, 0.0, 0.0, 0.0, 0.0],
     }
+}
+
+// Neither an infinity nor a NaN, which no comparison holds of.
+fn is_finite(x: f32) -> bool
+    ensures { λ r. ⌜ r ≡ finite x ⌝ }
+{
+    let infinity = 1.0 / 0.0;
+    if x < infinity {
+        return -infinity < x;
+    }
+    false
+}
+
+// Whether a transform can be drawn with: else it is refusal 9.
+pub fn all_finite(z: [f32; 6]) -> bool
+    ensures { λ r. ⌜ r ≡ allFinite z ⌝ }
+{
+    let mut k: usize = 0;
+    while k < 6 {
+        if !is_finite(z[k]) {
+            return false;
+        }
+        k += 1;
+    }
+    true
 }
 
 // The address of the style's flags, the one that wraps.

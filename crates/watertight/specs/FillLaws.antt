@@ -19,12 +19,13 @@ use Rattle.drawing.specs.Cubic.{point}
 use Rattle.curve.specs.Chain.{Chain, written, fill-chain}
 use Rattle.curve.specs.Bounds.{lines-at-most}
 use Rattle.segment.specs.Segment.{fillEvents, shapeEvents}
-use Rattle.scene.specs.Reading.{f32Point, i16Of, i16Point, wide, pointWords, pointAt, lineCubic, quadCubic, origin, raised, cubicOf, reaches, segmentOf, floatsAt, transformOf}
+use Rattle.scene.specs.Reading.{f32Point, i16Of, i16Point, wide, pointWords, pointAt, lineCubic, quadCubic, origin, raised, cubicOf, reaches, segmentOf, floatsAt, transformOf, allFinite}
 use Rattle.segment.specs.declared.Shape.the-variants.{Fill}
 use Rattle.scene.specs.declared.reading.SegmentRead.{SegmentRead}
 use Rattle.scene.specs.declared.reading.TransformRead.{TransformRead}
-use Rattle.refusals.specs.Refusals.{found}
-use Rattle.flatten.specs.Tag.{inside, _>>=_, eventsBy, eventsAt, shapeAt, isStroke}
+use Rattle.refusals.specs.Refusals.{found, refused}
+use Rattle.refusals.specs.declared.Refusal.the-variants.{BadTransform}
+use Rattle.flatten.specs.Tag.{inside, _>>=_, finiteOnly, eventsBy, eventsAt, shapeAt, isStroke}
 use Rattle.flatten.specs.declared.call.Layout.{Layout}
 use Rattle.flatten.specs.declared.tag.Head.{Head}
 use Rattle.watertight.specs.Fill.{Call, readEvents, headOf, typeOf, pointOf, firstOf, lastOf, transformWords, writtenBy}
@@ -55,7 +56,7 @@ word-of ws at k h = getD-take 6 (drop at ws) k 0 h ∙ getD-drop at ws k 0
 here : (ws : List ℕ) (at : ℕ) → getD ws (at + 0) 0 ≡ getD ws at 0
 here ws at = let e : at + 0 ≡ at = omega arith in ap (λ (k : ℕ). getD ws k 0) e
 
-six-words : (ws : List ℕ) (at : ℕ) → floatsAt ws at ≡ floatsAt (take 6 (drop at ws)) 0
+pub six-words : (ws : List ℕ) (at : ℕ) → floatsAt ws at ≡ floatsAt (take 6 (drop at ws)) 0
 unfolding floatsAt
 six-words ws at =
     cc (here ws at, word-of ws at 0 (lit< tt), word-of ws at 1 (lit< tt), word-of ws at 2 (lit< tt), word-of ws at 3 (lit< tt), word-of ws at 4 (lit< tt), word-of ws at 5 (lit< tt))
@@ -69,7 +70,7 @@ found-points : (b : Bool) (ps ps' : List Vec2) → let r : SegmentRead = cond b 
 found-points true ps ps' h = refl
 found-points false ps ps' h = let y : _≡_ {A = ℕ} 0 1 = cc in absurd (omega arith)
 
-transform-read : (scene : List ℕ) (base ix : ℕ) → transformOf scene base ix .found ≡ true → transformOf scene base ix .z ≡ floatsAt scene (base + ix * 6)
+pub transform-read : (scene : List ℕ) (base ix : ℕ) → transformOf scene base ix .found ≡ true → transformOf scene base ix .z ≡ floatsAt scene (base + ix * 6)
 unfolding transformOf
 transform-read scene base ix = found-z (ltb (base + ix * 6) (2 ^ 32) && leb (base + ix * 6 + 6) (length scene)) (floatsAt scene (base + ix * 6)) (replicate 6 (whole 0))
 
@@ -80,15 +81,20 @@ segment-read byte offset scene base =
     found-points (reaches (byte % 4) (wide byte) offset scene base) (cubicOf (byte % 4) false scene (wide byte) (base + offset)) (origin ∷ origin ∷ origin ∷ origin ∷ [])
 
 both-read : (a : TransformRead) (b : SegmentRead) (flags : ℕ) (es : List Event)
-    → (inside (a .found) (a .z) >>= λ z. inside (b .found) (b .points) >>= λ ps. found Fill >>= λ s. found (shapeEvents s flags z ps)) ≡ found es
+    → (inside (a .found) (a .z) >>= finiteOnly >>= λ z. inside (b .found) (b .points) >>= λ ps. found Fill >>= λ s. found (shapeEvents s flags z ps)) ≡ found es
     → (a .found ≡ true) × (b .found ≡ true) × (fillEvents (a .z) (b .points) ≡ es)
-unfolding _>>=_ shapeEvents
+unfolding _>>=_ shapeEvents finiteOnly
 both-read a b flags es = go (a .found) (b .found)
   where
-    go : (s t : Bool) → (inside s (a .z) >>= λ z. inside t (b .points) >>= λ ps. found Fill >>= λ s. found (shapeEvents s flags z ps)) ≡ found es
+    with-z : (f t : Bool) → (cond f (found (a .z)) (refused BadTransform) >>= λ z. inside t (b .points) >>= λ ps. found Fill >>= λ s. found (shapeEvents s flags z ps)) ≡ found es
+        → (t ≡ true) × (fillEvents (a .z) (b .points) ≡ es)
+    with-z true true h = (refl, cc)
+    with-z true false h = let y : _≡_ {A = ℕ} 0 1 = cc in absurd (omega arith)
+    with-z false t h = let y : _≡_ {A = ℕ} 0 1 = cc in absurd (omega arith)
+
+    go : (s t : Bool) → (inside s (a .z) >>= finiteOnly >>= λ z. inside t (b .points) >>= λ ps. found Fill >>= λ s. found (shapeEvents s flags z ps)) ≡ found es
         → (s ≡ true) × (t ≡ true) × (fillEvents (a .z) (b .points) ≡ es)
-    go true true h = (refl, refl, cc)
-    go true false h = let y : _≡_ {A = ℕ} 0 1 = cc in absurd (omega arith)
+    go true t h = let k = with-z (allFinite (a .z)) t h in (refl, k .0, k .1)
     go false t h = let y : _≡_ {A = ℕ} 0 1 = cc in absurd (omega arith)
 
 -- ---- what a filled segment draws

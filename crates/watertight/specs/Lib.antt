@@ -7,3 +7,4 @@ pub mod Runs
 pub mod Steps
 pub mod Accepted
 pub mod Stored
+pub mod Transforms
