@@ -1,0 +1,16 @@
+pub mod Text
+pub mod TextLaws
+pub mod Form
+pub mod Reading
+pub mod Numbers
+pub mod Sound
+pub mod Accepts
+pub mod Rounding
+pub mod RoundingLaws
+pub mod Bits
+pub mod Export
+pub mod RoundTrip
+pub mod Examples
+pub mod Language
+pub mod CommandLaws
+pub mod Only
