@@ -3,7 +3,8 @@ use mathlib.Core.Path.{_≡_, refl, sym, ap, _∙_}
 use mathlib.Core.Bool.{Bool, true, false}
 use mathlib.Core.List.{List, [], _∷_, _++_, append-assoc}
 use Prim.Native.Nat.{ℕ, _+_, _≤_}
-use lib.ListN.{length}
+use native.Mathlib.Omega.{arith}
+use lib.ListN.{length, length-append}
 use Rattle.hpgl.specs.Text.{numeral, signedOf}
 use Rattle.hpgl.specs.TextLaws.{Stored, same-room, same-stored, first-room, second-room, then-stored}
 use Rattle.hpgl.specs.Form.{Pen, up, down, letter, command}
@@ -27,6 +28,11 @@ ended s n b = numeral (signedOf s n) ++ (b ∷ [])
 -- the same with the letter in a local
 pub parts-with : (l : ℕ) (draws sx : Bool) (x : ℕ) (sy : Bool) (y : ℕ) → l ≡ letter (penOf draws) → commandText draws sx x sy y ≡ (80 ∷ []) ++ ((l ∷ []) ++ (ended sx x 44 ++ ended sy y 59))
 parts-with l draws sx x sy y e = command-parts draws sx x sy y ∙ ap (λ (k : ℕ). (80 ∷ []) ++ ((k ∷ []) ++ (ended sx x 44 ++ ended sy y 59))) (sym e)
+
+pub command-size : (draws sx : Bool) (x : ℕ) (sy : Bool) (y a b : ℕ) → a ≡ length (numeral (signedOf sx x)) → b ≡ length (numeral (signedOf sy y)) → 4 + a + b ≡ length (commandText draws sx x sy y)
+unfolding commandText command
+command-size draws sx x sy y a b e f =
+    omega (arith, length-append (numeral (signedOf sx x)) (44 ∷ (numeral (signedOf sy y) ++ (59 ∷ []))), length-append (numeral (signedOf sy y)) (59 ∷ []))
 
 -- the room left for each part, and the whole stored
 module _ (l : ℕ) (draws sx : Bool) (x : ℕ) (sy : Bool) (y : ℕ) (e : l ≡ letter (penOf draws)) (w : List ℕ) (at : ℕ) (h : at + length (commandText draws sx x sy y) ≤ length w) where

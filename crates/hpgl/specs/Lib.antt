@@ -9,8 +9,7 @@ pub mod Rounding
 pub mod RoundingLaws
 pub mod Bits
 pub mod Export
-pub mod RoundTrip
-pub mod Examples
+pub mod ExportLaws
 pub mod Language
 pub mod CommandLaws
 pub mod Only

@@ -38,7 +38,7 @@ pub enum Rounded {
     To(bool, u32),
 }
 
-pub fn coordinate(word: u32) -> Rounded
+pub(crate) fn coordinate(word: u32) -> Rounded
     ensures { λ r. ⌜ Rounds knifeTable word r ⌝ }
 {
     let field = word % 2147483648 / 8388608;
