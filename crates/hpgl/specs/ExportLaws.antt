@@ -2,25 +2,26 @@
 use mathlib.Core.Path.{_≡_, refl, sym, ap, _∙_, subst}
 use mathlib.Core.Bool.{Bool, true, false, _&&_}
 use mathlib.Core.List.{List, [], _∷_, _++_, append-assoc}
-use Prim.Native.Nat.{ℕ, zero, suc, _+_, _-_, _≤_, _<_}
-use native.Mathlib.Nat.{add-zero}
+use Prim.Native.Nat.{ℕ, zero, suc, _+_, _-_, _/_, _≤_, _<_}
+use native.Mathlib.Nat.{add-zero, sub-zero}
+use native.Mathlib.Numerals.{add-one}
 use native.Mathlib.Omega.{arith}
 use lib.Dec.{leb, eqb}
 use lib.ListN.{length, length-append}
 use lib.Seq.{sets, length-sets}
 use lib.Ieee.{binary32, ofBits}
-use borrow.Author.Tests.{le-leb, lt-leb, eq-eqb, ne-eqb}
-use Rattle.records.specs.Record.{word, pathOf}
+use borrow.Author.Tests.{lt-ltb, le-ltb, le-leb, lt-leb, eq-eqb, ne-eqb}
+use Rattle.records.specs.Record.{count, word, pathOf}
 use Rattle.hpgl.specs.Text.{pick, numeral, signedOf}
 use Rattle.hpgl.specs.TextLaws.{Stored, sets-append}
 use Rattle.hpgl.specs.Form.{Point, Pen, up, down, letter, command, Range, knifeTable}
 use Rattle.hpgl.specs.CommandLaws.{penOf, commandText}
 use Rattle.hpgl.specs.Rounding.{isGood, roundedOf, pointOf}
 use Rattle.hpgl.specs.Bits.{Rounds}
-use Rattle.hpgl.specs.Export.{Verdict, written, refused, noRoom, Exported, exported, put, goesOn, putLine, exportFrom, Outcome, outcome, answerOf, finish}
+use Rattle.hpgl.specs.Export.{Verdict, written, refused, noRoom, Exported, exported, put, goesOn, putLine, exportFrom, Outcome, outcome, answerOf, finish, exportOf, cutOf}
 use Rattle.hpgl.specs.declared.rounding.Rounded.the-variants.{Bad, To}
 use Rattle.hpgl.specs.declared.export.Cut.{Cut}
-use Rattle.hpgl.specs.declared.export.Cut.the-variants.{BadNumber, NoRoom}
+use Rattle.hpgl.specs.declared.export.Cut.the-variants.{Whole, BadNumber, NoRoom}
 use Rattle.hpgl.specs.declared.export.Last.{Last}
 use Rattle.hpgl.specs.declared.export.Last.the-variants.{Nowhere, Ended}
 use Rattle.hpgl.specs.declared.export.Put.{Put}
@@ -196,3 +197,49 @@ module _ (ws : List ℕ) (path i : ℕ) (last : Last) (before : List ℕ) (at : 
 
     pub its-line : (x y z w : ℕ) (b : Bool) → x ≡ word ws i 2 → y ≡ word ws i 3 → z ≡ word ws i 4 → w ≡ word ws i 5 → b ≡ goesOn last x y → (q p : Put) (after : List ℕ) → Continues (putLine knifeTable b x y z w) before at q after → q ≡ p → Steps ws path i last before at (stepOf p z w) after
     its-line x y z w b ex ey ez ew eb q p after k e = rw (sym e, ez, ew) (by-result q after (rw (eb, ex, ey, ez, ew) at k))
+
+-- ---- the records left
+unfoldable pub left : List ℕ → ℕ → List ℕ → ℕ → Last → ℕ → Outcome
+left ws path bs at last i = finish at bs (exportFrom knifeTable path ws (length bs - at) last (count ws - i) i)
+
+pub none-left : (ws : List ℕ) (path : ℕ) (bs : List ℕ) (at : ℕ) (last : Last) (i : ℕ) → count ws ≤ i → outcome (Whole at) bs ≡ left ws path bs at last i
+unfolding left exportFrom answerOf
+none-left ws path bs at last i h = rw (let e : count ws - i ≡ 0 = omega arith in e) (sym (nothing-stood at bs written))
+
+module _ (ws : List ℕ) (path : ℕ) (bs : List ℕ) (at : ℕ) (last : Last) (i : ℕ) (h : i < count ws) (q : Step) (after : List ℕ) (s : Steps ws path i last bs at q after) where
+  one-less : left ws path bs at last i ≡ steppedTo ws path i (count ws - suc i) q after
+  unfolding left
+  one-less = rw (let e : count ws - i ≡ suc (count ws - suc i) = omega arith in e) (s .says (count ws - suc i))
+
+  pub record-on : (a : ℕ) (l : Last) → q ≡ step-is.On a l → left ws path after a l (i + 1) ≡ left ws path bs at last i
+  unfolding left
+  record-on a l e = rw (add-one i) (sym (rw e at one-less))
+
+  pub record-bad : (m : ℕ) → q ≡ step-is.Bad m → outcome (BadNumber m i) after ≡ left ws path bs at last i
+  record-bad m e = sym (rw e at one-less)
+
+  pub record-full : (m : ℕ) → q ≡ step-is.Full m → outcome (NoRoom m i) after ≡ left ws path bs at last i
+  record-full m e = sym (rw e at one-less)
+
+  pub step-room : (a : ℕ) (l : Last) → q ≡ step-is.On a l → a ≤ length after
+  step-room a l e = rw e at (s .room)
+
+-- what holds before each record, from where the loop began
+pub record Going (ws : List ℕ) (path : ℕ) (bs₀ : List ℕ) (start n : ℕ) (bs : List ℕ) (at : ℕ) (last : Last) (i : ℕ) : Type 0 where
+  pub same : left ws path bs at last i ≡ left ws path bs₀ start Nowhere 0
+  pub room : at ≤ length bs
+  pub kept : length bs ≡ length bs₀
+  pub count : n ≡ length ws / 6
+  pub done : i ≤ n
+
+-- ---- the whole file
+module _ (ws : List ℕ) (path : ℕ) (bs : List ℕ) where
+  pub no-opening : length bs < 3 → outcome (NoRoom 0 0) bs ≡ cutOf path ws bs
+  unfolding cutOf exportOf finish answerOf
+  no-opening h = rw (lt-ltb (length bs) 3 h)
+
+  pub opened : 3 ≤ length bs → left ws path (sets bs 0 (73 ∷ 78 ∷ 59 ∷ [])) 3 Nowhere 0 ≡ cutOf path ws bs
+  unfolding cutOf exportOf left
+  opened h =
+      rw (le-ltb (length bs) 3 h, length-sets bs 0 (73 ∷ 78 ∷ 59 ∷ []), sub-zero (count ws))
+      (sym (stored-finish {xs = 73 ∷ 78 ∷ 59 ∷ []} (record { place = refl; bytes = refl }) (exportFrom knifeTable path ws (length bs - 3) Nowhere (count ws) 0)))

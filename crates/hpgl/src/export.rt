@@ -4,8 +4,8 @@ ghost use mathlib.Core.Path.{_≡_};
 ghost use lib.ListN.{length};
 ghost use Rattle.hpgl.specs.Form.{knifeTable};
 ghost use Rattle.hpgl.specs.CommandLaws.{penOf, commandText};
-ghost use Rattle.hpgl.specs.Export.{put, goesOn, putLine, outcome, finish, cutOf, cutNumber, exportFrom};
-ghost use Rattle.hpgl.specs.ExportLaws.{Texted, Continues, Steps};
+ghost use Rattle.hpgl.specs.Export.{put, goesOn, putLine, outcome, cutOf, cutNumber};
+ghost use Rattle.hpgl.specs.ExportLaws.{Texted, Continues, Steps, left};
 use crate::rounding::Rounded;
 use crate::rounding::coordinate;
 use crate::text::command_length;
@@ -129,5 +129,54 @@ fn put_record(
         Put::On(a) => Step::On(a, Last::Ended(z, w)),
         Put::Bad(n) => Step::Bad(n),
         Put::Full(n) => Step::Full(n),
+    }
+}
+
+// The lines of the path, behind the first bytes.
+fn put_all(list: &[u32], path: u32, out: &mut [u8], start: usize) -> Cut
+    requires { ⌜ start ≤ length (now out) ⌝ }
+    ensures { λ r. ⌜ outcome r (now (out .exit)) ≡ left (now (list .entry)) path (now (out .entry)) start Last.Nowhere 0 ⌝ }
+{
+    let n = list.len() / 6;
+    let mut at = start;
+    let mut last = Last::Nowhere;
+    let mut i: usize = 0;
+    while i < n {
+        match put_record(list, path, i, last, out, at) {
+            Step::On(a, l) => {
+                at = a;
+                last = l;
+            }
+            Step::Bad(m) => return Cut::BadNumber(m, i),
+            Step::Full(m) => return Cut::NoRoom(m, i),
+        }
+        i += 1;
+    }
+    Cut::Whole(at)
+}
+
+// The path's lines of a list of line records; words behind the last whole record do not matter.
+pub fn export(list: &[u32], path: u32, out: &mut [u8]) -> Cut
+    ensures { λ r. ⌜ outcome r (now (out .exit)) ≡ cutOf path (now (list .entry)) (now (out .entry)) ⌝ }
+{
+    if out.len() < 3 {
+        return Cut::NoRoom(0, 0);
+    }
+    out[0] = b'I';
+    out[1] = b'N';
+    out[2] = b';';
+    put_all(list, path, out, 3)
+}
+
+impl Cut {
+    // The table of the numbers.
+    pub fn number(self) -> u32
+        ensures { λ r. ⌜ r ≡ cutNumber self ⌝ }
+    {
+        match self {
+            Cut::Whole(_) => 0,
+            Cut::BadNumber(_, _) => 30,
+            Cut::NoRoom(_, _) => 31,
+        }
     }
 }
