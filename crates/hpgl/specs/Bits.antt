@@ -164,6 +164,11 @@ near-fields s (suc x) t h d =
     (rw (size-some x t h d) at (valued (odd 24 s (8388608 + t) x 149) s ((8388608 + t) * 2 ^ x) (2 ^ 149) (pow-pos 149) (odd-sign 24 s (8388608 + t) x 149)))
 
 -- ---- what code finds, for the table's range
+pub most-is : (s : Bool) → most knifeTable s ≡ 32767
+unfolding knifeTable
+most-is true = refl
+most-is false = refl
+
 digits-of : (w : ℕ) → w % 8388608 < 8388608
 digits-of w = omega arith
 
@@ -175,11 +180,6 @@ module _ (w : ℕ) (h : w % 2147483648 / 8388608 ≤ 150) (n : ℕ) (e : n ≡ s
   here : Valued (ofBits binary32 w) (leb 2147483648 w) n
   unfolding ofBits
   here = rw e (near-fields (leb 2147483648 w) (w % 2147483648 / 8388608) (w % 8388608) h (digits-of w))
-
-  most-is : (s : Bool) → most knifeTable s ≡ 32767
-  unfolding knifeTable
-  most-is true = refl
-  most-is false = refl
 
   in-range : isGood knifeTable (ofBits binary32 w) ≡ leb n 32767
   in-range = here .good knifeTable ∙ within-size knifeTable (leb 2147483648 w) n ∙ ap (leb n) (most-is (leb 2147483648 w))

@@ -14,7 +14,8 @@ use borrow.Author.Tests.{lt-ltb, le-ltb, le-leb, lt-leb, eq-eqb, ne-eqb}
 use Rattle.records.specs.Record.{count, word, pathOf}
 use Rattle.hpgl.specs.Text.{pick, numeral, signedOf}
 use Rattle.hpgl.specs.TextLaws.{Stored, sets-append}
-use Rattle.hpgl.specs.Form.{Point, Pen, up, down, letter, command, Range, knifeTable}
+use Rattle.hpgl.specs.Form.{Pen, up, down, letter, command, Range, knifeTable}
+use Rattle.hpgl.specs.declared.Point.{Point}
 use Rattle.hpgl.specs.CommandLaws.{penOf, commandText}
 use Rattle.hpgl.specs.Rounding.{isGood, roundedOf, pointOf}
 use Rattle.hpgl.specs.Bits.{Rounds}

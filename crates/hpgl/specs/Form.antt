@@ -5,10 +5,7 @@ use Prim.Native.Nat.{ℕ, suc, _≤_}
 use Prim.{Unit}
 use lib.IntN.{ℤ, pos, negsuc}
 use Rattle.hpgl.specs.Text.{numeral}
-
-pub record Point : Type 0 where
-  pub x : ℤ
-  pub y : ℤ
+use Rattle.hpgl.specs.declared.Point.{Point}
 
 pub record Line : Type 0 where
   pub from : Point

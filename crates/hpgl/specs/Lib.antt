@@ -10,6 +10,9 @@ pub mod RoundingLaws
 pub mod Bits
 pub mod Export
 pub mod ExportLaws
+pub mod RoundTrip
+pub mod Examples
 pub mod Language
+pub mod ReadingLaws
 pub mod CommandLaws
 pub mod Only

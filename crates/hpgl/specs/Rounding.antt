@@ -6,7 +6,8 @@ use lib.Dec.{leb}
 use lib.Ieee.{Float, nan, inf, fin, binary32, up, down, ofBits}
 use lib.Ieee.Nearest.{closest}
 use Rattle.hpgl.specs.Text.{signedOf}
-use Rattle.hpgl.specs.Form.{Range, Point}
+use Rattle.hpgl.specs.Form.{Range}
+use Rattle.hpgl.specs.declared.Point.{Point}
 
 -- a float as a whole number, from its exact value in one step; 0 for one that is not finite
 unfoldable pub roundedOf : Float → ℤ
