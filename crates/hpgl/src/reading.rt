@@ -4,10 +4,10 @@ ghost use mathlib.Core.Path.{_≡_};
 ghost use mathlib.Core.List.{[], _∷_};
 ghost use lib.ListN.{length, drop, getD};
 ghost use lib.Seq.{sets};
-ghost use Rattle.hpgl.specs.Form.{up, down, knifeTable};
-ghost use Rattle.hpgl.specs.Reading.{byteOf, valueOf, kept, onDash, onDigit, onOther, numStep};
+ghost use Rattle.hpgl.specs.Form.{up, down, knifeTable, Within};
+ghost use Rattle.hpgl.specs.Reading.{byteOf, valueOf, kept, onDash, onDigit, onOther, numStep, first, second};
 ghost use Rattle.hpgl.specs.Numbers.{Good};
-ghost use Rattle.hpgl.specs.ReadingLaws.{Numbered};
+ghost use Rattle.hpgl.specs.ReadingLaws.{Numbered, Reaches};
 use crate::Point;
 
 // What a reading answers, with the count of lines that stand: the whole file; or the position of the
@@ -152,4 +152,34 @@ fn read_number(file: &[u8], start: usize, ends: u8) -> Number
         at += 1;
     }
     Number::Wrong(at)
+}
+
+// Two numbers, up to the byte behind them: the point and that byte's position; the position of a wrong byte, or of a
+// number out of range.
+pub enum Place {
+    At(Point, usize),
+    Wrong(usize),
+    Beyond(usize),
+}
+
+fn read_y(file: &[u8], x: i32, start: usize) -> Place
+    requires { ⌜ (start ≤ length (now file)) × Within knifeTable x ⌝ }
+    ensures { λ r. ⌜ Reaches (now (file .entry)) start (λ c k p. second c k p x start Num.None) r ⌝ }
+{
+    match read_number(file, start, b';') {
+        Number::Whole(y, at) => Place::At(Point { x, y }, at),
+        Number::Wrong(at) => Place::Wrong(at),
+        Number::Beyond => Place::Beyond(start),
+    }
+}
+
+fn read_point(file: &[u8], start: usize) -> Place
+    requires { ⌜ start ≤ length (now file) ⌝ }
+    ensures { λ r. ⌜ Reaches (now (file .entry)) start (λ c k p. first c k p start Num.None) r ⌝ }
+{
+    match read_number(file, start, b',') {
+        Number::Whole(x, at) => read_y(file, x, at + 1),
+        Number::Wrong(at) => Place::Wrong(at),
+        Number::Beyond => Place::Beyond(start),
+    }
 }
