@@ -4,10 +4,10 @@ ghost use mathlib.Core.Path.{_≡_};
 ghost use mathlib.Core.List.{[], _∷_};
 ghost use lib.ListN.{length, drop, getD};
 ghost use lib.Seq.{sets};
-ghost use Rattle.hpgl.specs.Form.{up, down, knifeTable, Within};
-ghost use Rattle.hpgl.specs.Reading.{byteOf, valueOf, kept, onDash, onDigit, onOther, numStep, first, second};
+ghost use Rattle.hpgl.specs.Form.{knifeTable, Within};
+ghost use Rattle.hpgl.specs.Reading.{byteOf, valueOf, kept, onDash, onDigit, onOther, numStep, first, second, free, upFrom, downFrom, run, ending, told, backOf, readingOf, backNumber};
 ghost use Rattle.hpgl.specs.Numbers.{Good};
-ghost use Rattle.hpgl.specs.ReadingLaws.{Numbered, Reaches};
+ghost use Rattle.hpgl.specs.ReadingLaws.{Numbered, Reaches, Commands, Lifts, Draws, Lettered, unread, byteIs};
 use crate::Point;
 
 // What a reading answers, with the count of lines that stand: the whole file; or the position of the
@@ -181,5 +181,178 @@ fn read_point(file: &[u8], start: usize) -> Place
         Number::Whole(x, at) => read_y(file, x, at + 1),
         Number::Wrong(at) => Place::Wrong(at),
         Number::Beyond => Place::Beyond(start),
+    }
+}
+
+// A command: the pen lifted to a point, or a line, with the position behind it; the position of a wrong byte, or of a
+// number out of range.
+pub enum Command {
+    Up(Point, usize),
+    Line(Point, Point, usize),
+    Wrong(usize),
+    Beyond(usize),
+}
+
+// The rest of a PU whose P is at a position.
+fn lift(file: &[u8], at: usize) -> Command
+    requires { ⌜ at + 2 ≤ length (now file) ⌝ }
+    ensures { λ r. ⌜ Lifts (now (file .entry)) at r ⌝ }
+{
+    match read_point(file, at + 2) {
+        Place::At(t, end) => Command::Up(t, end + 1),
+        Place::Wrong(p) => Command::Wrong(p),
+        Place::Beyond(p) => Command::Beyond(p),
+    }
+}
+
+// The rest of a PD that draws from q.
+fn draw(file: &[u8], at: usize, q: Point) -> Command
+    requires { ⌜ at + 2 ≤ length (now file) ⌝ }
+    ensures { λ r. ⌜ Draws (now (file .entry)) at q r ⌝ }
+{
+    match read_point(file, at + 2) {
+        Place::At(t, end) => Command::Line(q, t, end + 1),
+        Place::Wrong(p) => Command::Wrong(p),
+        Place::Beyond(p) => Command::Beyond(p),
+    }
+}
+
+// A PU behind another one is wrong at its U.
+fn pen_up(file: &[u8], at: usize, stand: Stand) -> Command
+    requires { ⌜ at + 2 ≤ length (now file) ⌝ }
+    ensures { λ r. ⌜ Lettered (now (file .entry)) at (upFrom stand at (at + 1)) r ⌝ }
+{
+    match stand {
+        Stand::Fresh => lift(file, at),
+        Stand::Lifted(_) => Command::Wrong(at + 1),
+        Stand::Drawn(_) => lift(file, at),
+    }
+}
+
+// A PD before any PU is wrong at its D.
+fn pen_down(file: &[u8], at: usize, stand: Stand) -> Command
+    requires { ⌜ at + 2 ≤ length (now file) ⌝ }
+    ensures { λ r. ⌜ Lettered (now (file .entry)) at (downFrom stand at (at + 1)) r ⌝ }
+{
+    match stand {
+        Stand::Fresh => Command::Wrong(at + 1),
+        Stand::Lifted(q) => draw(file, at, q),
+        Stand::Drawn(q) => draw(file, at, q),
+    }
+}
+
+fn read_command(file: &[u8], at: usize, stand: Stand) -> Command
+    requires { ⌜ at < length (now file) ⌝ }
+    ensures { λ r. ⌜ Commands (now (file .entry)) at (λ room. run knifeTable room at (free stand) (drop at (now (file .entry)))) r ⌝ }
+{
+    if file[at] != b'P' {
+        return Command::Wrong(at);
+    }
+    if file.len() - at < 2 {
+        return Command::Wrong(at + 1);
+    }
+    let letter = file[at + 1];
+    if letter == b'U' {
+        return pen_up(file, at, stand);
+    }
+    if letter == b'D' {
+        return pen_down(file, at, stand);
+    }
+    Command::Wrong(at + 1)
+}
+
+// The four numbers of a line.
+fn store(lines: &mut [i32], at: usize, q: Point, t: Point)
+    requires { ⌜ at + 4 ≤ length (now lines) ⌝ }
+    ensures { λ _. ⌜ now (lines .exit) ≡ sets (now (lines .entry)) at (q .x ∷ q .y ∷ t .x ∷ t .y ∷ []) ⌝ }
+{
+    let a = q.x;
+    let b = q.y;
+    let c = t.x;
+    let d = t.y;
+    lines[at] = a;
+    lines[at + 1] = b;
+    lines[at + 2] = c;
+    lines[at + 3] = d;
+}
+
+// At the file's end: a PU needs a PD.
+fn ended(stand: Stand, count: usize, at: usize) -> ReadBack
+    ensures { λ r. ⌜ r ≡ backOf (ending at (free stand)) count ⌝ }
+{
+    match stand {
+        Stand::Fresh => ReadBack::Whole(count),
+        Stand::Lifted(_) => ReadBack::Malformed(count, at),
+        Stand::Drawn(_) => ReadBack::Whole(count),
+    }
+}
+
+// The commands behind the first bytes.
+fn read_all(file: &[u8], start: usize, lines: &mut [i32]) -> ReadBack
+    requires { ⌜ start ≤ length (now file) ⌝ }
+    ensures { λ r. ⌜ told r (now (lines .exit)) ≡ unread (now (file .entry)) (now (lines .entry)) 0 start Stand.Fresh ⌝ }
+{
+    let room = lines.len() / 4;
+    let mut at = start;
+    let mut stand = Stand::Fresh;
+    let mut count: usize = 0;
+    while at < file.len() {
+        match read_command(file, at, stand) {
+            Command::Up(t, next) => {
+                stand = Stand::Lifted(t);
+                at = next;
+            }
+            Command::Line(q, t, next) => {
+                if count >= room {
+                    return ReadBack::Full(count, at);
+                }
+                store(lines, count * 4, q, t);
+                count += 1;
+                stand = Stand::Drawn(t);
+                at = next;
+            }
+            Command::Wrong(p) => return ReadBack::Malformed(count, p),
+            Command::Beyond(p) => return ReadBack::TooFar(count, p),
+        }
+    }
+    ended(stand, count, at)
+}
+
+fn is_at(file: &[u8], at: usize, b: u8) -> bool
+    ensures { λ r. ⌜ r ≡ byteIs (now (file .entry)) at b ⌝ }
+{
+    if at < file.len() {
+        return file[at] == b;
+    }
+    false
+}
+
+// The lines of a file, four numbers each; numbers behind the last whole line are not touched.
+pub fn read(file: &[u8], lines: &mut [i32]) -> ReadBack
+    ensures { λ r. ⌜ told r (now (lines .exit)) ≡ readingOf (now (file .entry)) (now (lines .entry)) ⌝ }
+{
+    if !is_at(file, 0, b'I') {
+        return ReadBack::Malformed(0, 0);
+    }
+    if !is_at(file, 1, b'N') {
+        return ReadBack::Malformed(0, 1);
+    }
+    if !is_at(file, 2, b';') {
+        return ReadBack::Malformed(0, 2);
+    }
+    read_all(file, 3, lines)
+}
+
+impl ReadBack {
+    // The table of the numbers.
+    pub fn number(self) -> u32
+        ensures { λ r. ⌜ r ≡ backNumber self ⌝ }
+    {
+        match self {
+            ReadBack::Whole(_) => 0,
+            ReadBack::Malformed(_, _) => 33,
+            ReadBack::TooFar(_, _) => 33,
+            ReadBack::Full(_, _) => 34,
+        }
     }
 }
