@@ -41,15 +41,7 @@ pub enum Step {
 }
 
 // A command to a point given by signs and sizes, where it has room.
-fn put_text(
-    out: &mut [u8],
-    at: usize,
-    draws: bool,
-    sx: bool,
-    x: u32,
-    sy: bool,
-    y: u32,
-) -> Put
+fn put_text(out: &mut [u8], at: usize, draws: bool, sx: bool, x: u32, sy: bool, y: u32) -> Put
     requires { ⌜ at ≤ length (now out) ⌝ }
     ensures { λ r. ⌜ Texted (commandText draws sx x sy y) (now (out .entry)) at r (now (out .exit)) ⌝ }
 {
@@ -74,15 +66,7 @@ fn put_command(out: &mut [u8], at: usize, draws: bool, x: u32, y: u32) -> Put
 }
 
 // A line from (x, y) to (z, w), which goes on from the last one or starts a chain.
-fn put_line(
-    out: &mut [u8],
-    at: usize,
-    joined: bool,
-    x: u32,
-    y: u32,
-    z: u32,
-    w: u32,
-) -> Put
+fn put_line(out: &mut [u8], at: usize, joined: bool, x: u32, y: u32, z: u32, w: u32) -> Put
     requires { ⌜ at ≤ length (now out) ⌝ }
     ensures { λ r. ⌜ Continues (putLine knifeTable joined x y z w) (now (out .entry)) at r (now (out .exit)) ⌝ }
 {
@@ -106,14 +90,7 @@ fn goes_on(last: Last, x: u32, y: u32) -> bool
 }
 
 // Record i, if it is of the path.
-fn put_record(
-    list: &[u32],
-    path: u32,
-    i: usize,
-    last: Last,
-    out: &mut [u8],
-    at: usize,
-) -> Step
+fn put_record(list: &[u32], path: u32, i: usize, last: Last, out: &mut [u8], at: usize) -> Step
     requires { ⌜ at ≤ length (now out) ⌝ }
     ensures { λ r. ⌜ Steps (now (list .entry)) path i last (now (out .entry)) at r (now (out .exit)) ⌝ }
 {
