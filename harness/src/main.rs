@@ -2,6 +2,7 @@
 
 mod angles;
 mod bench;
+mod checker;
 mod exact;
 mod ffi;
 mod half;
@@ -40,6 +41,7 @@ fn main() -> ExitCode {
         ["full", only] => checks(Extent::Whole, only),
         ["bench"] => {
             bench::run();
+            checker::bench();
             ExitCode::SUCCESS
         }
         _ => {
@@ -57,6 +59,7 @@ fn checks(extent: Extent, only: &str) -> ExitCode {
     roots::run(&mut report, extent);
     trig::run(&mut report, extent);
     angles::run(&mut report, extent);
+    checker::run(&mut report, extent);
     match report.close() {
         true => ExitCode::SUCCESS,
         false => ExitCode::FAILURE,
