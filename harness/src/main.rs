@@ -54,7 +54,7 @@ fn main() -> ExitCode {
 /// Runs the checks whose names begin with `only`.
 fn checks(extent: Extent, only: &str) -> ExitCode {
     let mut report = Report::new(only);
-    report.check("C header: a C program that uses it", interface::header);
+    report.check("C header: C programs that use it", interface::header);
     report.check("Rust wrapper: its tests", interface::wrapper);
     roots::run(&mut report, extent);
     trig::run(&mut report, extent);
