@@ -4,12 +4,11 @@
 
 use crate::Extent;
 use crate::random::Random;
-use crate::report::Report;
+use crate::report::{self, Report};
 use crate::sweep::{self, Tally};
 use hinthevoun::{CheckRefusal, Layout, PathBox, Verdict, check, flatten, scan};
 use std::collections::BTreeMap;
 use std::hint::black_box;
-use std::time::{Duration, Instant};
 
 type Record = [u32; 6];
 type Said = Result<Verdict, CheckRefusal>;
@@ -287,20 +286,21 @@ fn sound_lists(records: u32) -> [Vec<u32>; 3] {
     [outline(0, &corners).concat(), outline(0, &zeros).concat(), paths.concat()]
 }
 
-fn fastest(list: &[u32]) -> Duration {
+/// Milliseconds of the processor for a check, in the best of many rounds.
+fn fastest(list: &[u32]) -> f64 {
     let timed = || {
-        let start = Instant::now();
+        let before = report::used();
         let _ = black_box(check(black_box(list)));
-        start.elapsed()
+        1e3 * (report::used() - before)
     };
-    (0..20).map(|_| timed()).min().expect("there were rounds")
+    (0..20).map(|_| timed()).fold(f64::MAX, f64::min)
 }
 
 fn in_time() -> Tally {
     let mut tally = Tally::default();
     for list in sound_lists(2000) {
         let took = fastest(&list);
-        tally.count(check(&list) == SOUND && took < Duration::from_millis(20), || format!("{took:?}"));
+        tally.count(check(&list) == SOUND && took < 20.0, || format!("{took} ms"));
     }
     tally
 }
@@ -309,7 +309,7 @@ fn in_time() -> Tally {
 pub fn bench() {
     println!("check of lists, ms     outline   zeros   paths of four");
     for records in [250, 500, 1000, 2000] {
-        let [a, b, c] = sound_lists(records).map(|list| 1e3 * fastest(&list).as_secs_f64());
+        let [a, b, c] = sound_lists(records).map(|list| fastest(&list));
         println!("{records:>6} records        {a:>7.2} {b:>7.2} {c:>7.2}");
     }
 }
