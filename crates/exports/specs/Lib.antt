@@ -2,3 +2,4 @@ pub mod Call
 pub mod Scan
 pub mod Check
 pub mod Only
+pub mod Cut

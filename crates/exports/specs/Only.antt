@@ -2,6 +2,7 @@
 use Prim.Native.Nat.{ℕ}
 use mathlib.Core.Path.{_≡_, _∙_, sym, ap}
 use mathlib.Core.List.{List}
+use lib.IntN.{ℤ}
 use lib.Ieee.{Float}
 use Rattle.laws.specs.Only.{Only, determined}
 use Rattle.maths.specs.Numbers.{halfOf}
@@ -11,8 +12,11 @@ use Rattle.scene.specs.Tags.{scanOf}
 use Rattle.flatten.specs.declared.boxes.PathBox.{PathBox}
 use Rattle.flatten.specs.declared.call.Layout.{Layout}
 use Rattle.flatten.specs.Call.{callOf}
+use Rattle.hpgl.specs.Export.{cutOf}
+use Rattle.hpgl.specs.Reading.{readingOf}
 use Rattle.exports.specs.Call.{reported, reportedOf}
 use Rattle.exports.specs.Scan.{scanned, scannedOf}
+use Rattle.exports.specs.Cut.{written, writtenOf, linesRead, linesReadOf}
 use Rattle.checker.specs.Verdict.{toldOf}
 use Rattle.checker.specs.Only.{check-only}
 use Rattle.checker.specs.declared.Verdict.{Verdict}
@@ -62,3 +66,11 @@ hinth-check-only list os r s p q =
     let number = p .returned ∙ ap (λ (v : Verdict). toldOf v .number) v ∙ sym (q .returned) in
     let out = p .written ∙ ap (λ (v : Verdict). twoOf (toldOf v .verdict) (toldOf v .«record») os) v ∙ sym (q .written) in
     λ i. (number i, out i)
+
+pub hinth-cut-only : (path : ℕ) (ws bs os : List ℕ)
+    → Only (λ (r : ℕ × (List ℕ × List ℕ)). written (r .0) (r .1 .0) (r .1 .1) ≡ writtenOf (cutOf path ws bs) os)
+hinth-cut-only path ws bs os r s p q = let e = p ∙ sym q in λ i. (e i .number, (e i .bytes, e i .out))
+
+pub hinth-read-cut-only : (file : List ℕ) (zs : List ℤ) (os : List ℕ)
+    → Only (λ (r : ℕ × (List ℤ × List ℕ)). linesRead (r .0) (r .1 .0) (r .1 .1) ≡ linesReadOf (readingOf file zs) os)
+hinth-read-cut-only file zs os r s p q = let e = p ∙ sym q in λ i. (e i .number, (e i .numbers, e i .out))

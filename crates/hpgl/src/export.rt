@@ -4,8 +4,9 @@ ghost use mathlib.Core.Path.{_≡_};
 ghost use lib.ListN.{length};
 ghost use Rattle.hpgl.specs.Form.{knifeTable};
 ghost use Rattle.hpgl.specs.CommandLaws.{penOf, commandText};
-ghost use Rattle.hpgl.specs.Export.{put, goesOn, putLine, outcome, cutOf, cutNumber};
+ghost use Rattle.hpgl.specs.Export.{put, goesOn, putLine, outcome, cutOf, cutReport};
 ghost use Rattle.hpgl.specs.ExportLaws.{Texted, Continues, Steps, left};
+use crate::Report;
 use crate::rounding::Rounded;
 use crate::rounding::coordinate;
 use crate::text::command_length;
@@ -147,13 +148,25 @@ pub fn export(list: &[u32], path: u32, out: &mut [u8]) -> Cut
 
 impl Cut {
     // The table of the numbers.
-    pub fn number(self) -> u32
-        ensures { λ r. ⌜ r ≡ cutNumber self ⌝ }
+    pub fn report(self) -> Report
+        ensures { λ r. ⌜ r ≡ cutReport self ⌝ }
     {
         match self {
-            Cut::Whole(_) => 0,
-            Cut::BadNumber(_, _) => 30,
-            Cut::NoRoom(_, _) => 31,
+            Cut::Whole(n) => Report {
+                number: 0,
+                stands: n,
+                at: 0,
+            },
+            Cut::BadNumber(n, i) => Report {
+                number: 30,
+                stands: n,
+                at: i,
+            },
+            Cut::NoRoom(n, i) => Report {
+                number: 31,
+                stands: n,
+                at: i,
+            },
         }
     }
 }

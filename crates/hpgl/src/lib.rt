@@ -9,3 +9,10 @@ pub struct Point {
     pub x: i32,
     pub y: i32,
 }
+
+// An answer in numbers: 0 or the refusal's, how many bytes or lines stand, and the record or the position of a refusal.
+pub struct Report {
+    pub number: u32,
+    pub stands: usize,
+    pub at: usize,
+}

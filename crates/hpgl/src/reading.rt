@@ -5,10 +5,11 @@ ghost use mathlib.Core.List.{[], _∷_};
 ghost use lib.ListN.{length, drop, getD};
 ghost use lib.Seq.{sets};
 ghost use Rattle.hpgl.specs.Form.{knifeTable, Within};
-ghost use Rattle.hpgl.specs.Reading.{byteOf, valueOf, kept, onDash, onDigit, onOther, numStep, first, second, free, upFrom, downFrom, run, ending, told, backOf, readingOf, backNumber};
+ghost use Rattle.hpgl.specs.Reading.{byteOf, valueOf, kept, onDash, onDigit, onOther, numStep, first, second, free, upFrom, downFrom, run, ending, told, backOf, readingOf, backReport};
 ghost use Rattle.hpgl.specs.Numbers.{Good};
 ghost use Rattle.hpgl.specs.ReadingLaws.{Numbered, Reaches, Commands, Lifts, Draws, Lettered, unread, byteIs};
 use crate::Point;
+use crate::Report;
 
 // What a reading answers, with the count of lines that stand: the whole file; or the position of the
 // first byte that is not of the form, of a number out of range, of a PD whose line has no room.
@@ -345,14 +346,30 @@ pub fn read(file: &[u8], lines: &mut [i32]) -> ReadBack
 
 impl ReadBack {
     // The table of the numbers.
-    pub fn number(self) -> u32
-        ensures { λ r. ⌜ r ≡ backNumber self ⌝ }
+    pub fn report(self) -> Report
+        ensures { λ r. ⌜ r ≡ backReport self ⌝ }
     {
         match self {
-            ReadBack::Whole(_) => 0,
-            ReadBack::Malformed(_, _) => 33,
-            ReadBack::TooFar(_, _) => 33,
-            ReadBack::Full(_, _) => 34,
+            ReadBack::Whole(n) => Report {
+                number: 0,
+                stands: n,
+                at: 0,
+            },
+            ReadBack::Malformed(n, p) => Report {
+                number: 33,
+                stands: n,
+                at: p,
+            },
+            ReadBack::TooFar(n, p) => Report {
+                number: 33,
+                stands: n,
+                at: p,
+            },
+            ReadBack::Full(n, p) => Report {
+                number: 34,
+                stands: n,
+                at: p,
+            },
         }
     }
 }
