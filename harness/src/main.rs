@@ -3,6 +3,7 @@
 mod angles;
 mod bench;
 mod checker;
+mod cuts;
 mod exact;
 mod ffi;
 mod half;
@@ -42,6 +43,7 @@ fn main() -> ExitCode {
         ["bench"] => {
             bench::run();
             checker::bench();
+            cuts::bench();
             ExitCode::SUCCESS
         }
         _ => {
@@ -60,6 +62,7 @@ fn checks(extent: Extent, only: &str) -> ExitCode {
     trig::run(&mut report, extent);
     angles::run(&mut report, extent);
     checker::run(&mut report, extent);
+    cuts::run(&mut report, extent);
     match report.close() {
         true => ExitCode::SUCCESS,
         false => ExitCode::FAILURE,

@@ -94,3 +94,43 @@ pub fn check(list: &[u32]) -> (u32, [u64; 2]) {
     let number = unsafe { hinth_check(list.as_ptr(), list.len(), out.as_mut_ptr(), out.len()) };
     (number, out)
 }
+
+unsafe extern "C" {
+    fn hinth_cut(
+        list: *const u32,
+        list_words: usize,
+        path: u32,
+        bytes: *mut u8,
+        n_bytes: usize,
+        out: *mut u64,
+        out_len: usize,
+    ) -> u32;
+    fn hinth_read_cut(
+        file: *const u8,
+        n_bytes: usize,
+        lines: *mut i32,
+        n_numbers: usize,
+        out: *mut u64,
+        out_len: usize,
+    ) -> u32;
+}
+
+/// The refusal's number or 0, and the bytes that stand and the record.
+pub fn cut(list: &[u32], path: u32, bytes: &mut [u8]) -> (u32, [u64; 2]) {
+    let mut out = [0; 2];
+    // SAFETY: as in `scan`.
+    let number = unsafe {
+        hinth_cut(list.as_ptr(), list.len(), path, bytes.as_mut_ptr(), bytes.len(), out.as_mut_ptr(), out.len())
+    };
+    (number, out)
+}
+
+/// The refusal's number or 0, and the lines that stand and the position.
+pub fn read_cut(file: &[u8], lines: &mut [i32]) -> (u32, [u64; 2]) {
+    let mut out = [0; 2];
+    // SAFETY: as in `scan`.
+    let number = unsafe {
+        hinth_read_cut(file.as_ptr(), file.len(), lines.as_mut_ptr(), lines.len(), out.as_mut_ptr(), out.len())
+    };
+    (number, out)
+}

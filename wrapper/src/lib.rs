@@ -22,9 +22,11 @@
 //! ```
 
 mod check;
+mod cut;
 mod ffi;
 
 pub use check::{CheckRefusal, Verdict, check};
+pub use cut::{CutRefusal, ReadRefusal, cut, read_cut};
 
 /// Where in a scene its parts begin, in words, and how many workgroups of 256 tags to take.
 #[derive(Clone, Copy, Debug, PartialEq, Eq)]
