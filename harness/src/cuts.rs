@@ -190,7 +190,9 @@ fn compare_rooms(tally: &mut Tally, random: &mut Random, list: &[u32], path: u32
 
 fn compare_file(tally: &mut Tally, random: &mut Random, file: &[u8]) {
     let lines = lines_of(file, usize::MAX).0.len();
-    for numbers in [4 * lines + 8, 4 * lines, (4 * lines).saturating_sub(1), random.below(4 * lines as u64 + 1) as usize] {
+    for numbers in
+        [4 * lines + 8, 4 * lines, (4 * lines).saturating_sub(1), random.below(4 * lines as u64 + 1) as usize]
+    {
         compare_read(tally, file, numbers);
     }
 }
@@ -330,8 +332,10 @@ fn damaged(extent: Extent) -> Tally {
 
 /// Texts of the form's bytes and words, which are seldom files, and often for long.
 fn random_texts(extent: Extent) -> Tally {
-    const PARTS: [&str; 18] =
-        ["IN;", "PU", "PD", "P", ",", ";", "-", "0", "1", "32767", "32768", "-32767", "7,8;", "PU1,2;", "PD3,4;", "PD0,-5;", "U", "x"];
+    const PARTS: [&str; 18] = [
+        "IN;", "PU", "PD", "P", ",", ";", "-", "0", "1", "32767", "32768", "-32767", "7,8;", "PU1,2;", "PD3,4;",
+        "PD0,-5;", "U", "x",
+    ];
     sweep::blocks(extent.scaled(300), |block, tally| {
         let mut random = Random::seeded(block);
         for _ in 0..BLOCK {
@@ -370,7 +374,8 @@ fn closed_fills(extent: Extent) -> Tally {
 /// A list of long chains, with coordinates of all sizes, and its file.
 fn large() -> (Vec<u32>, Vec<u8>) {
     let mut random = Random::seeded(1);
-    let mut value = || (random.below(65535) as f32 - 32767.0 + random.below(4) as f32 * 0.25).clamp(-32767.0, 32767.0).to_bits();
+    let mut value =
+        || (random.below(65535) as f32 - 32767.0 + random.below(4) as f32 * 0.25).clamp(-32767.0, 32767.0).to_bits();
     let mut pen = [value(), value()];
     let mut list = Vec::new();
     for k in 0..200_000 {

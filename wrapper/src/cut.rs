@@ -23,7 +23,9 @@ impl CutRefusal {
 impl std::fmt::Display for CutRefusal {
     fn fmt(&self, f: &mut std::fmt::Formatter) -> std::fmt::Result {
         let (why, bytes, record) = match *self {
-            CutRefusal::BadNumber { bytes, record } => ("a coordinate that is no number or out of range", bytes, record),
+            CutRefusal::BadNumber { bytes, record } => {
+                ("a coordinate that is no number or out of range", bytes, record)
+            }
             CutRefusal::NoRoom { bytes, record } => ("no room for the command", bytes, record),
         };
         write!(f, "refused {} at record {record}: {why}; {bytes} bytes stand", self.number())
@@ -54,7 +56,9 @@ impl ReadRefusal {
 impl std::fmt::Display for ReadRefusal {
     fn fmt(&self, f: &mut std::fmt::Formatter) -> std::fmt::Result {
         let (why, lines, position) = match *self {
-            ReadRefusal::Malformed { lines, position } => ("not of the form, or a number out of range", lines, position),
+            ReadRefusal::Malformed { lines, position } => {
+                ("not of the form, or a number out of range", lines, position)
+            }
             ReadRefusal::Full { lines, position } => ("no room for the line", lines, position),
         };
         write!(f, "refused {} at byte {position}: {why}; {lines} lines stand", self.number())

@@ -55,7 +55,10 @@ fn thirty_goes_before_thirty_one_and_whole_commands_stand() {
     assert_eq!(cut(&words, 1, &mut bytes), Err(CutRefusal::BadNumber { bytes: 9, record: 0 }));
     assert_eq!(&bytes[..9], b"IN;PU1,2;");
     let refusal = CutRefusal::BadNumber { bytes: 15, record: 2 };
-    assert_eq!(refusal.to_string(), "refused 30 at record 2: a coordinate that is no number or out of range; 15 bytes stand");
+    assert_eq!(
+        refusal.to_string(),
+        "refused 30 at record 2: a coordinate that is no number or out of range; 15 bytes stand"
+    );
 }
 
 #[test]
@@ -106,5 +109,8 @@ fn lines_before_a_refusal_stand() {
         assert_eq!(read_cut(file, &mut lines[..room]), Err(refusal));
         assert_eq!(lines, [1, 1, 2, 2, 2, 2, 3, 3, 9, 9, 9, 9]);
     }
-    assert_eq!(ReadRefusal::Full { lines: 2, position: 21 }.to_string(), "refused 34 at byte 21: no room for the line; 2 lines stand");
+    assert_eq!(
+        ReadRefusal::Full { lines: 2, position: 21 }.to_string(),
+        "refused 34 at byte 21: no room for the line; 2 lines stand"
+    );
 }
