@@ -5,7 +5,7 @@
 use crate::Extent;
 use crate::random::Random;
 use crate::report::{self, Report};
-use crate::sweep::{self, Tally};
+use crate::sweep::{self, Tally, Words};
 use hinthevoun::{CheckRefusal, Layout, PathBox, Verdict, check, flatten, scan};
 use std::collections::BTreeMap;
 use std::hint::black_box;
@@ -119,13 +119,15 @@ fn sizes() -> Tally {
 }
 
 /// There and back between 0 and a point with this word at one of its places: sound where the word is finite. And the way
-/// back from the word with the other sign: sound where it is a zero.
+/// back from the word with the other sign: sound where it is a zero. The whole has all words that are bad.
 fn every_word(extent: Extent) -> Tally {
-    let words = match extent {
-        Extent::Whole => sweep::Words::ALL,
-        Extent::Part => sweep::Words { first: 0, last: u32::MAX, step: 2003 },
+    let every = |step| Words { first: 0, last: u32::MAX, step };
+    let bad = Words::every(0x7f7f_ff00, 0x7fff_ffff);
+    let sets = match extent {
+        Extent::Whole => vec![every(13), bad, bad.negated()],
+        Extent::Part => vec![every(2003)],
     };
-    sweep::words(&[words], |word, tally| {
+    sweep::words(&sets, |word, tally| {
         for [from, to] in [[word, word], [word, word ^ MINUS_ZERO]] {
             for places in [[4, 2], [5, 3]] {
                 let mut records = [[0; 6]; 2];
@@ -188,7 +190,7 @@ fn spoilt(random: &mut Random, tally: &mut Tally, mut records: Vec<Record>) {
 const BLOCK: u64 = 1000;
 
 fn random_lists(extent: Extent) -> Tally {
-    sweep::blocks(extent.scaled(200), |block, tally| {
+    sweep::blocks(extent.scaled(250), |block, tally| {
         let mut random = Random::seeded(block);
         for _ in 0..BLOCK {
             let mut records = Vec::new();
@@ -262,7 +264,7 @@ pub fn fills(random: &mut Random) -> Option<Vec<Record>> {
 
 /// What the library draws for closed fills must pass as it is, which is proved of it.
 fn own_lists(extent: Extent) -> Tally {
-    sweep::blocks(extent.scaled(40), |block, tally| {
+    sweep::blocks(extent.scaled(200), |block, tally| {
         let mut random = Random::seeded(block);
         for _ in 0..10 {
             let Some(records) = fills(&mut random) else {

@@ -22,7 +22,7 @@ pub extern "C" fn hinth_read_cut(file: &[u8], lines: &mut [i32], out: &mut [u64]
     ensures { λ r. ⌜ linesRead r (now (lines .exit)) (now (out .exit))
         ≡ linesReadOf (readingOf (now (file .entry)) (now (lines .entry))) (now (out .entry)) ⌝ }
 {
-    let report = read(file, lines).report();
-    put_two(out, report.stands as u64, report.at as u64);
-    report.number
+    let back = read(file, lines).report();
+    put_two(out, back.stands as u64, back.at as u64);
+    back.number
 }

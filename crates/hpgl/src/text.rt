@@ -98,11 +98,11 @@ fn decimal_length(n: u32) -> usize
 }
 
 // How many bytes the text of a number has.
-fn number_length(s: bool, n: u32) -> usize
-    ensures { λ r. ⌜ Long (numeral (signedOf s n)) (n + 2) r ⌝ }
+fn number_length(s: bool, size: u32) -> usize
+    ensures { λ r. ⌜ Long (numeral (signedOf s size)) (size + 2) r ⌝ }
 {
-    let digits = decimal_length(n);
-    if n == 0 {
+    let digits = decimal_length(size);
+    if size == 0 {
         return digits;
     }
     if s {

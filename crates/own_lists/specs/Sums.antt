@@ -58,7 +58,7 @@ module _ (g : ℕ → ℕ) where
   none zero = refl
   none (suc n) = omega (arith, none n)
 
-  by-times : (n : ℕ) (js : List ℕ) → Below n js → sumTo (λ i. times i js * g i) n ≡ sumOver g js
+  pub by-times : (n : ℕ) (js : List ℕ) → Below n js → sumTo (λ i. times i js * g i) n ≡ sumOver g js
   unfolding Below times sumOver
   by-times n [] h = none n
   by-times n (j ∷ js) h = one-more j (λ i. times i js) n (h .0) ∙ ap (λ (s : ℕ). g j + s) (by-times n js (h .1))

@@ -12,7 +12,7 @@ decimal-length-requires c κs = search needs
 
 -- src/text.rt:106:9
 returns : tie.Need-returns
-returns c = long-zero (c .before .before .args .s) (c .before .before .args .n) (c .before .decimal-length .result) (c .if1 .taken) (c .before .decimal-length .ensures)
+returns c = long-zero (c .before .before .args .s) (c .before .before .args .size) (c .before .decimal-length .result) (c .if1 .taken) (c .before .decimal-length .ensures)
 
 -- src/text.rt:109:16
 add-result : tie.Need-add-result
@@ -20,11 +20,11 @@ add-result c = search needs
 
 -- src/text.rt:109:9
 returns-2 : tie.Need-returns-2
-returns-2 c = long-minus (c .before .before .before .args .s) (c .before .before .before .args .n) (c .before .before .decimal-length .result) (c .if2 .taken) (c .before .if1 .left) (c .before .before .decimal-length .ensures)
+returns-2 c = long-minus (c .before .before .before .args .s) (c .before .before .before .args .size) (c .before .before .decimal-length .result) (c .if2 .taken) (c .before .if1 .left) (c .before .before .decimal-length .ensures)
 
 -- src/text.rt:101:1
 returns-3 : tie.Need-returns-3
-returns-3 c = long-plus (c .before .before .before .args .s) (c .before .before .before .args .n) (c .before .before .decimal-length .result) (c .if2 .left) (c .before .before .decimal-length .ensures)
+returns-3 c = long-plus (c .before .before .before .args .s) (c .before .before .before .args .size) (c .before .before .decimal-length .result) (c .if2 .left) (c .before .before .decimal-length .ensures)
 
 pub number-length-spec : {M : Type 1} → statement M
 number-length-spec =
