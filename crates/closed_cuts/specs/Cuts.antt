@@ -1,5 +1,5 @@
 -- A closed outline is a closed cut: the theorem. What it speaks of is defined in Closed.antt. Assumes nothing.
-use Prim.Native.Nat.{ℕ, zero, suc, _+_, _≤_, _<_}
+use Prim.Native.Nat.{ℕ, zero, suc, _+_, _≤_}
 use mathlib.Core.Path.{_≡_, refl, sym, ap, _∙_}
 use mathlib.Core.Logic.{_⊎_, inl, inr, ⊎-elim}
 use mathlib.Core.Bool.{Bool, true, false, _&&_}
@@ -13,9 +13,9 @@ use Rattle.records.specs.Record.{count, word, pathOf, once, tallyOf}
 use Rattle.spiral.specs.declared.util.Vec2.{Vec2}
 use Rattle.drawing.specs.Sheet.{Event, line, noCount, noJoin}
 use Rattle.watertight.specs.Count.{startsBy, endsBy, oneWhere}
-use Rattle.watertight.specs.Fill.{Call, Accepted, tags, pathAt, drawnAt, recordsFrom}
+use Rattle.watertight.specs.Fill.{Call, Accepted, pathAt, drawnAt}
 use Rattle.watertight.specs.Stored.{one}
-use Rattle.own_lists.specs.Fills.{listOf, tagsOf, times}
+use Rattle.own_lists.specs.Fills.{listOf}
 use Rattle.own_lists.specs.Pass.{fills-even}
 use Rattle.hpgl.specs.Text.{pick}
 use Rattle.hpgl.specs.Form.{Line, Range}

@@ -2,9 +2,8 @@
 use mathlib.Core.Path.{_≡_, refl}
 use mathlib.Core.List.{List, [], _∷_}
 use Prim.Native.Nat.{ℕ}
-use mathlib.Core.Bool.{true, false}
 use lib.IntN.{pos, negsuc}
-use lib.Ieee.{binary32, ofBits}
+use lib.Ieee.{ofBits}
 use Rattle.hpgl.specs.Rounding.{roundedOf, isWithin, isGood, pointOf}
 use Rattle.hpgl.specs.Export.{exported, written, refused, noRoom, put, goesOn, putLine, exportFrom, exportOf}
 use Rattle.hpgl.specs.Text.{digits, decimal, numeral, signedOf}

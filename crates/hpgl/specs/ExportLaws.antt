@@ -2,26 +2,24 @@
 use mathlib.Core.Path.{_≡_, refl, sym, ap, _∙_, subst}
 use mathlib.Core.Bool.{Bool, true, false, _&&_}
 use mathlib.Core.List.{List, [], _∷_, _++_, append-assoc}
-use Prim.Native.Nat.{ℕ, zero, suc, _+_, _-_, _/_, _≤_, _<_}
+use Prim.Native.Nat.{ℕ, suc, _+_, _-_, _/_, _≤_, _<_}
 use native.Mathlib.Nat.{add-zero, sub-zero}
 use native.Mathlib.Numerals.{add-one}
 use native.Mathlib.Omega.{arith}
-use lib.Dec.{leb, eqb}
 use lib.ListN.{length, length-append}
 use lib.Seq.{sets, length-sets}
 use lib.Ieee.{binary32, ofBits}
 use borrow.Author.Tests.{lt-ltb, le-ltb, le-leb, lt-leb, eq-eqb, ne-eqb}
 use Rattle.records.specs.Record.{count, word, pathOf}
-use Rattle.hpgl.specs.Text.{pick, numeral, signedOf}
+use Rattle.hpgl.specs.Text.{numeral, signedOf}
 use Rattle.hpgl.specs.TextLaws.{Stored, sets-append}
 use Rattle.hpgl.specs.Form.{Pen, up, down, letter, command, Range, knifeTable}
 use Rattle.hpgl.specs.declared.Point.{Point}
 use Rattle.hpgl.specs.CommandLaws.{penOf, commandText}
-use Rattle.hpgl.specs.Rounding.{isGood, roundedOf, pointOf}
+use Rattle.hpgl.specs.Rounding.{isGood, pointOf}
 use Rattle.hpgl.specs.Bits.{Rounds}
 use Rattle.hpgl.specs.Export.{Verdict, written, refused, noRoom, Exported, exported, put, goesOn, putLine, exportFrom, Outcome, outcome, answerOf, finish, exportOf, cutOf}
 use Rattle.hpgl.specs.declared.rounding.Rounded.the-variants.{Bad, To}
-use Rattle.hpgl.specs.declared.export.Cut.{Cut}
 use Rattle.hpgl.specs.declared.export.Cut.the-variants.{Whole, BadNumber, NoRoom}
 use Rattle.hpgl.specs.declared.export.Last.{Last}
 use Rattle.hpgl.specs.declared.export.Last.the-variants.{Nowhere, Ended}

@@ -15,5 +15,7 @@ pub mod RoundTrip
 pub mod Examples
 pub mod Language
 pub mod ReadingLaws
+pub mod Completion
+pub mod Stops
 pub mod CommandLaws
 pub mod Only

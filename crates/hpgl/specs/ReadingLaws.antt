@@ -1,6 +1,6 @@
 -- What the parts of the reader find, and how the automaton goes on from there. Assumes nothing.
 use mathlib.Core.Path.{_≡_, refl, sym, ap, _∙_, subst}
-use mathlib.Core.Bool.{Bool, true, false, _&&_, true≢false}
+use mathlib.Core.Bool.{Bool, true, false, _&&_}
 use mathlib.Core.Logic.{inl, inr}
 use mathlib.Core.List.{List, [], _∷_}
 use Prim.{Unit}
@@ -8,16 +8,17 @@ use Prim.Native.Nat.{ℕ, zero, suc, _+_, _-_, _*_, _/_, _≤_, _<_}
 use native.Mathlib.Nat.{add-zero, sub-zero}
 use native.Mathlib.Numerals.{add-one}
 use native.Mathlib.Omega.{arith}
-use lib.IntN.{ℤ, pos, negsuc, negℤ}
-use lib.Dec.{T, leb, ltb, eqb, ltb→lt, nltb→le}
+use lib.IntN.{ℤ}
+use lib.Dec.{T, ltb, eqb, ltb→lt, nltb→le, eqb→eq}
 use lib.ListN.{length, getD, drop, set, drop-of-length-le}
 use lib.Seq.{sets, length-sets, drop-cons, drop-drop}
-use borrow.Author.Tests.{ltb-true, eqb-true, lt-ltb, le-ltb, le-leb, lt-leb, eq-eqb, ne-eqb}
+use lib.Ieee.Fits.{and-l, and-r}
+use borrow.Author.Tests.{lt-ltb, le-ltb, le-leb, lt-leb, eq-eqb, ne-eqb}
 use Rattle.laws.specs.Same.{either}
 use Rattle.hpgl.specs.Text.{pick}
-use Rattle.hpgl.specs.Form.{Line, Pen, up, down, Range, most, knifeTable, Within}
+use Rattle.hpgl.specs.Form.{Line, Pen, up, down, most, knifeTable, Within}
 use Rattle.hpgl.specs.Bits.{most-is}
-use Rattle.hpgl.specs.Reading.{Byte, dash, digit, other, byteOf, valueOf, kept, onDash, onDigit, onOther, numStep, State, start1, start2, start3, free, pen, first, second, Move, go, drew, bad, outside, upFrom, downFrom, whole, firstOf, secondOf, moveOf, End, complete, malformed, tooFar, full, Answer, answer, ending, after, run, readOf, flat, Told, told, backOf, tell, readingOf}
+use Rattle.hpgl.specs.Reading.{dash, digit, other, byteOf, kept, onDigit, onOther, numStep, State, start1, start2, start3, free, pen, first, second, Move, go, drew, bad, outside, upFrom, downFrom, whole, firstOf, secondOf, moveOf, End, malformed, tooFar, full, Answer, answer, ending, after, run, readOf, flat, Told, told, backOf, tell, readingOf}
 use Rattle.hpgl.specs.Numbers.{Good, NumSays, view, num-says}
 use Rattle.hpgl.specs.declared.Point.{Point}
 use Rattle.hpgl.specs.declared.reading.Num.{Num}
@@ -462,10 +463,6 @@ pub record Unread (file : List ℕ) (start : ℕ) (zs₀ : List ℤ) (most : ℕ
 unfoldable pub byteIs : List ℕ → ℕ → ℕ → Bool
 byteIs file at b = ltb at (length file) && eqb (getD file at 0) b
 
-both : (p q : Bool) → p && q ≡ true → (p ≡ true) × (q ≡ true)
-both true q e = (refl, e)
-both false q e = absurd (true≢false (sym e))
-
 module _ (file : List ℕ) (at b : ℕ) where
   pub byte-in : at < length file → eqb (getD file at 0) b ≡ byteIs file at b
   unfolding byteIs
@@ -477,7 +474,9 @@ module _ (file : List ℕ) (at b : ℕ) where
 
   pub byte-inside : byteIs file at b ≡ true → (at < length file) × (getD file at 0 ≡ b)
   unfolding byteIs
-  byte-inside e = let h = both (ltb at (length file)) (eqb (getD file at 0) b) e in (ltb-true at (length file) (h .0), eqb-true (getD file at 0) b (h .1))
+  byte-inside e =
+      let h : T (ltb at (length file) && eqb (getD file at 0) b) = rw e tt in
+      (ltb→lt at (length file) (and-l (ltb at (length file)) (eqb (getD file at 0) b) h), eqb→eq (getD file at 0) b (and-r (ltb at (length file)) (eqb (getD file at 0) b) h))
 
 -- a state that wants one byte
 module _ (file : List ℕ) (at b : ℕ) (s t : State) (moves : (k : ℕ) → moveOf knifeTable at s k ≡ pick (eqb k b) (go t) (bad at)) (short : ending at s ≡ malformed at) (room : ℕ) where

@@ -22,20 +22,20 @@ pub enum Cut {
 }
 
 // Where the last line of the path ended, by its bits.
-pub enum Last {
+enum Last {
     Nowhere,
     Ended(u32, u32),
 }
 
 // After a command or a line: the place behind it, or the count of bytes that stand.
-pub enum Put {
+enum Put {
     On(usize),
     Bad(usize),
     Full(usize),
 }
 
 // The same with where the path's last line ended.
-pub enum Step {
+enum Step {
     On(usize, Last),
     Bad(usize),
     Full(usize),

@@ -21,7 +21,7 @@ pub enum ReadBack {
 }
 
 // What is read of a number: nothing, the sign, the digit 0, or a sign and a size, less 1.
-pub enum Num {
+enum Num {
     None,
     Dashed,
     Naught,
@@ -29,7 +29,7 @@ pub enum Num {
 }
 
 // A byte of a number: it goes on, it ended before this byte, the byte is wrong, or it is out of range.
-pub enum NumStep {
+enum NumStep {
     Goes(Num),
     Done(i32),
     Wrong,
@@ -37,7 +37,7 @@ pub enum NumStep {
 }
 
 // Where the pen stands: nowhere yet, lifted to a point, or at the end of a line.
-pub enum Stand {
+enum Stand {
     Fresh,
     Lifted(Point),
     Drawn(Point),
@@ -130,7 +130,7 @@ fn num_step(ends: bool, n: Num, b: u8) -> NumStep
 }
 
 // A number, up to the byte behind it: its value and that byte's position; the position of a wrong byte.
-pub enum Number {
+enum Number {
     Whole(i32, usize),
     Wrong(usize),
     Beyond,
@@ -157,7 +157,7 @@ fn read_number(file: &[u8], start: usize, ends: u8) -> Number
 
 // Two numbers, up to the byte behind them: the point and that byte's position; the position of a wrong byte, or of a
 // number out of range.
-pub enum Place {
+enum Place {
     At(Point, usize),
     Wrong(usize),
     Beyond(usize),
@@ -187,7 +187,7 @@ fn read_point(file: &[u8], start: usize) -> Place
 
 // A command: the pen lifted to a point, or a line, with the position behind it; the position of a wrong byte, or of a
 // number out of range.
-pub enum Command {
+enum Command {
     Up(Point, usize),
     Line(Point, Point, usize),
     Wrong(usize),

@@ -33,7 +33,7 @@ fn size_of(field: u32, digits: u32) -> u32
 }
 
 // A coordinate as a whole number: its sign and size, or that it is a NaN or out of range.
-pub enum Rounded {
+pub(crate) enum Rounded {
     Bad,
     To(bool, u32),
 }

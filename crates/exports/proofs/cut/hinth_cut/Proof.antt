@@ -1,3 +1,4 @@
+-- `exports::cut::hinth_cut` meets its contract. Assumes nothing.
 use borrow.Author.Needs.{needs}
 use mathlib.Core.Path.{_≡_, sym}
 use mathlib.Core.List.{List}
@@ -9,33 +10,22 @@ use Rattle.exports.specs.Check.{twoOf}
 use Rattle.exports.specs.Cut.{written, writtenOf}
 use Rattle.exports.proofs.cut.hinth_cut.Statement.{statement}
 use Rattle.exports.proofs.cut.hinth_cut.Tie as tie
-use Rattle.exports.proofs.cut.hinth_cut.Reads as reads
-use Rattle.exports.proofs.cut.hinth_cut.Lts as lts
-use Rattle.exports.proofs.check.put_two.Reads as put-two-reads
-use Rattle.hpgl.proofs.export.Cut.report.Reads as report-reads
-use Rattle.hpgl.proofs.export.export.Reads as export-reads
 
--- src/cut.rt:15:18
 export-requires : tie.Need-export-requires
 export-requires c κs = search needs
 
--- src/cut.rt:15:9
 report-requires : tie.Need-report-requires
 report-requires c κs = search needs
 
--- src/cut.rt:16:5
 put-two-requires : tie.Need-put-two-requires
 put-two-requires c κs = search needs
 
--- src/cut.rt:10:1
 same-length : tie.Need-same-length
 same-length c = search needs
 
--- src/cut.rt:10:1
 same-length-2 : tie.Need-same-length-2
 same-length-2 c = search needs
 
--- src/cut.rt:10:1
 told-cut : (a : Cut) (bs : List ℕ) (o : Outcome) (t : Report) (os os' : List ℕ) → outcome a bs ≡ o → t ≡ cutReport a → os' ≡ twoOf (t .stands) (t .at) os → written (t .number) bs os' ≡ writtenOf o os
 unfolding writtenOf
 told-cut a bs o t os os' e f g = rw (sym e, g, f)

@@ -1,3 +1,4 @@
+-- `exports::cut::hinth_read_cut` meets its contract. Assumes nothing.
 use borrow.Author.Needs.{needs}
 use mathlib.Core.Path.{_≡_, sym}
 use mathlib.Core.List.{List}
@@ -10,33 +11,22 @@ use Rattle.exports.specs.Check.{twoOf}
 use Rattle.exports.specs.Cut.{linesRead, linesReadOf}
 use Rattle.exports.proofs.cut.hinth_read_cut.Statement.{statement}
 use Rattle.exports.proofs.cut.hinth_read_cut.Tie as tie
-use Rattle.exports.proofs.cut.hinth_read_cut.Reads as reads
-use Rattle.exports.proofs.cut.hinth_read_cut.Lts as lts
-use Rattle.exports.proofs.check.put_two.Reads as put-two-reads
-use Rattle.hpgl.proofs.reading.ReadBack.report.Reads as report-reads
-use Rattle.hpgl.proofs.reading.read.Reads as read-reads
 
--- src/cut.rt:25:18
 read-requires : tie.Need-read-requires
 read-requires c κs = search needs
 
--- src/cut.rt:25:9
 report-requires : tie.Need-report-requires
 report-requires c κs = search needs
 
--- src/cut.rt:26:5
 put-two-requires : tie.Need-put-two-requires
 put-two-requires c κs = search needs
 
--- src/cut.rt:20:1
 same-length : tie.Need-same-length
 same-length c = search needs
 
--- src/cut.rt:20:1
 same-length-2 : tie.Need-same-length-2
 same-length-2 c = search needs
 
--- src/cut.rt:20:1
 told-lines : (a : ReadBack) (zs : List ℤ) (o : Told) (t : Report) (os os' : List ℕ) → told a zs ≡ o → t ≡ backReport a → os' ≡ twoOf (t .stands) (t .at) os → linesRead (t .number) zs os' ≡ linesReadOf o os
 unfolding linesReadOf
 told-lines a zs o t os os' e f g = rw (sym e, g, f)

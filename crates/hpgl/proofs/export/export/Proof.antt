@@ -1,3 +1,4 @@
+-- `hpgl::export::export` meets its contract. Assumes nothing.
 use borrow.Author.Needs.{needs}
 use mathlib.Core.Path.{_∙_}
 use mathlib.Core.List.{[], _∷_}
@@ -7,35 +8,25 @@ use lib.Seq.{length-sets}
 use Rattle.hpgl.specs.ExportLaws.{no-opening, opened}
 use Rattle.hpgl.proofs.export.export.Statement.{statement}
 use Rattle.hpgl.proofs.export.export.Tie as tie
-use Rattle.hpgl.proofs.export.export.Reads as reads
-use Rattle.hpgl.proofs.export.export.Lts as lts
-use Rattle.hpgl.proofs.export.put_all.Reads as put-all-reads
 
--- src/export.rt:163:9
 returns : tie.Need-returns
 returns c = no-opening (c .before .before .before .args .list .now) (c .before .before .before .args .path) (c .before .before .before .args .out .now) (c .if1 .taken)
 
--- src/export.rt:165:5
 slice-write-out : tie.Need-slice-write-out
 slice-write-out c = search needs
 
--- src/export.rt:166:5
 slice-write-out-2 : tie.Need-slice-write-out-2
 slice-write-out-2 c = omega (arith, length-set (c .before .before .before .args .out .now) 0 73)
 
--- src/export.rt:167:5
 slice-write-out-3 : tie.Need-slice-write-out-3
 slice-write-out-3 c = search needs
 
--- src/export.rt:168:5
 put-all-requires : tie.Need-put-all-requires
 put-all-requires c κs = search needs
 
--- src/export.rt:159:1
 same-length : tie.Need-same-length
 same-length c = c .before .before .put-all .kept .1 .1 .0 ∙ length-sets (c .before .before .before .before .before .before .before .args .out .now) 0 (73 ∷ 78 ∷ 59 ∷ [])
 
--- src/export.rt:159:1
 returns-2 : tie.Need-returns-2
 returns-2 c = c .before .before .put-all .ensures ∙ opened (c .before .before .before .before .before .before .before .args .list .now) (c .before .before .before .before .before .before .before .args .path) (c .before .before .before .before .before .before .before .args .out .now) (c .before .before .before .before .if1 .left)
 

@@ -1,24 +1,19 @@
+-- `hpgl::export::goes_on` meets its contract. Assumes nothing.
 use borrow.Author.Needs.{needs}
 use Rattle.hpgl.specs.Export.{goesOn}
 use Rattle.hpgl.proofs.export.goes_on.Statement.{statement}
 use Rattle.hpgl.proofs.export.goes_on.Tie as tie
-use Rattle.hpgl.proofs.export.goes_on.Reads as reads
-use Rattle.hpgl.proofs.export.goes_on.Lts as lts
 
--- src/export.rt:103:26
 enum-told : tie.Need-enum-told
 enum-told c = search needs
 
--- src/export.rt:104:21
 enum-known-last : tie.Need-enum-known-last
 enum-known-last c = search needs
 
--- src/export.rt:99:1
 returns : tie.Need-returns
 unfolding goesOn
 returns c = rw (c .enum-told .given .1)
 
--- src/export.rt:99:1
 returns-2 : tie.Need-returns-2
 unfolding goesOn
 returns-2 c = rw (c .before .last .given .1)

@@ -1,53 +1,39 @@
+-- `hpgl::export::put_command` meets its contract. Assumes nothing.
 use borrow.Author.Needs.{needs}
 use Rattle.hpgl.specs.ExportLaws.{bad-x, bad-y, good-both}
 use Rattle.hpgl.proofs.export.put_command.Statement.{statement}
 use Rattle.hpgl.proofs.export.put_command.Tie as tie
-use Rattle.hpgl.proofs.export.put_command.Reads as reads
-use Rattle.hpgl.proofs.export.put_command.Lts as lts
-use Rattle.hpgl.proofs.export.put_text.Reads as put-text-reads
-use Rattle.hpgl.proofs.rounding.coordinate.Reads as coordinate-reads
 
--- src/export.rt:67:11
 coordinate-requires : tie.Need-coordinate-requires
 coordinate-requires c κs = search needs
 
--- src/export.rt:68:25
 enum-told : tie.Need-enum-told
 enum-told c = search needs
 
--- src/export.rt:69:21
 enum-known-sx : tie.Need-enum-known-sx
 enum-known-sx c = search needs
 
--- src/export.rt:69:37
 coordinate-requires-2 : tie.Need-coordinate-requires-2
 coordinate-requires-2 c κs = search needs
 
--- src/export.rt:70:29
 enum-told-2 : tie.Need-enum-told-2
 enum-told-2 c = search needs
 
--- src/export.rt:71:25
 enum-known-sy : tie.Need-enum-known-sy
 enum-known-sy c = search needs
 
--- src/export.rt:71:35
 put-text-requires : tie.Need-put-text-requires
 put-text-requires c κs = search needs
 
--- src/export.rt:63:1
 returns : tie.Need-returns
 returns c = bad-x (c .before .before .before .before .args .draws) (c .before .before .before .before .args .x) (c .before .before .before .before .args .y) (c .before .before .before .before .args .out .now) (c .before .before .before .before .args .at) (rw (c .enum-told .given .1) at (c .before .before .coordinate .ensures))
 
--- src/export.rt:63:1
 returns-2 : tie.Need-returns-2
 returns-2 c = bad-y (c .before .before .before .before .before .before .before .before .args .draws) (c .before .before .before .before .before .before .before .before .args .x) (c .before .before .before .before .before .before .before .before .args .y) (c .before .before .before .before .before .before .before .before .args .out .now) (c .before .before .before .before .before .before .before .before .args .at) _ _ (rw (c .before .before .before .before .sx .given .1) at (c .before .before .before .before .before .before .coordinate .ensures)) (rw (c .enum-told2 .given .1) at (c .before .before .coordinate2 .ensures))
 
--- src/export.rt:63:1
 same-length : tie.Need-same-length
 same-length c = search needs
 
--- src/export.rt:63:1
 returns-3 : tie.Need-returns-3
 returns-3 c = good-both (c .before .before .before .before .before .before .before .before .before .before .before .before .before .args .draws) (c .before .before .before .before .before .before .before .before .before .before .before .before .before .args .x) (c .before .before .before .before .before .before .before .before .before .before .before .before .before .args .y) (c .before .before .before .before .before .before .before .before .before .before .before .before .before .args .out .now) (c .before .before .before .before .before .before .before .before .before .before .before .before .before .args .at) _ _ _ _ (rw (c .before .before .before .before .before .before .before .before .before .sx .given .1) at (c .before .before .before .before .before .before .before .before .before .before .before .coordinate .ensures)) (rw (c .before .before .before .before .before .sy .given .1) at (c .before .before .before .before .before .before .before .coordinate2 .ensures)) _ _ (c .before .before .put-text .ensures)
 

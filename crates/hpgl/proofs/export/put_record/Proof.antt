@@ -1,79 +1,58 @@
+-- `hpgl::export::put_record` meets its contract. Assumes nothing.
 use borrow.Author.Needs.{needs}
 use mathlib.Core.Path.{_∙_, sym}
 use Rattle.hpgl.specs.ExportLaws.{other-path, its-line}
 use Rattle.hpgl.proofs.export.put_record.Statement.{statement}
 use Rattle.hpgl.proofs.export.put_record.Tie as tie
-use Rattle.hpgl.proofs.export.put_record.Reads as reads
-use Rattle.hpgl.proofs.export.put_record.Lts as lts
-use Rattle.hpgl.proofs.export.goes_on.Reads as goes-on-reads
-use Rattle.hpgl.proofs.export.put_line.Reads as put-line-reads
-use Rattle.records.proofs.word_at.Reads as word-at-reads
 
--- src/export.rt:120:8
 word-at-requires : tie.Need-word-at-requires
 word-at-requires c κs = search needs
 
--- src/export.rt:121:9
 returns : tie.Need-returns
 returns c = other-path (c .before .before .before .before .args .list .now) (c .before .before .before .before .args .path) (c .before .before .before .before .args .i) (c .before .before .before .before .args .last) (c .before .before .before .before .args .out .now) (c .before .before .before .before .args .at) (λ e. c .if1 .taken (c .before .word-at .ensures ∙ e)) (c .before .before .before .before .pre)
 
--- src/export.rt:123:9
 word-at-requires-2 : tie.Need-word-at-requires-2
 word-at-requires-2 c κs = search needs
 
--- src/export.rt:124:9
 word-at-requires-3 : tie.Need-word-at-requires-3
 word-at-requires-3 c κs = search needs
 
--- src/export.rt:125:9
 word-at-requires-4 : tie.Need-word-at-requires-4
 word-at-requires-4 c κs = search needs
 
--- src/export.rt:126:9
 word-at-requires-5 : tie.Need-word-at-requires-5
 word-at-requires-5 c κs = search needs
 
--- src/export.rt:127:9
 goes-on-requires : tie.Need-goes-on-requires
 goes-on-requires c κs = search needs
 
--- src/export.rt:128:11
 put-line-requires : tie.Need-put-line-requires
 put-line-requires c κs = search needs
 
--- src/export.rt:129:17
 enum-known-a : tie.Need-enum-known-a
 enum-known-a c = search needs
 
--- src/export.rt:130:18
 enum-known-n : tie.Need-enum-known-n
 enum-known-n c = search needs
 
--- src/export.rt:131:19
 enum-known-n-2 : tie.Need-enum-known-n-2
 enum-known-n-2 c = search needs
 
--- src/export.rt:109:1
 same-length : tie.Need-same-length
 same-length c = search needs
 
--- src/export.rt:109:1
 returns-2 : tie.Need-returns-2
 returns-2 c = its-line (c .before .before .before .before .before .before .before .before .before .before .before .before .before .before .before .before .args .list .now) (c .before .before .before .before .before .before .before .before .before .before .before .before .before .before .before .before .args .path) (c .before .before .before .before .before .before .before .before .before .before .before .before .before .before .before .before .args .i) (c .before .before .before .before .before .before .before .before .before .before .before .before .before .before .before .before .args .last) (c .before .before .before .before .before .before .before .before .before .before .before .before .before .before .before .before .args .out .now) (c .before .before .before .before .before .before .before .before .before .before .before .before .before .before .before .before .args .at) (sym (c .before .before .before .before .before .before .before .before .before .before .before .before .before .word-at .ensures) ∙ c .before .before .before .before .before .before .before .before .before .before .before .before .if1 .left) (c .before .before .before .before .before .before .before .before .before .before .before .word-at2 .result) (c .before .before .before .before .before .before .before .before .before .before .word-at3 .result) (c .before .before .before .before .before .before .before .before .before .word-at4 .result) (c .before .before .before .before .before .before .before .before .word-at5 .result) (c .before .before .before .before .before .before .before .goes-on .result) (c .before .before .before .before .before .before .before .before .before .before .before .word-at2 .ensures) (c .before .before .before .before .before .before .before .before .before .before .word-at3 .ensures) (c .before .before .before .before .before .before .before .before .before .word-at4 .ensures) (c .before .before .before .before .before .before .before .before .word-at5 .ensures) (c .before .before .before .before .before .before .before .goes-on .ensures) (c .before .before .before .before .before .put-line .result) _ _ (c .before .before .before .before .before .put-line .ensures) (c .before .a .given .1)
 
--- src/export.rt:109:1
 same-length-2 : tie.Need-same-length-2
 same-length-2 c = search needs
 
--- src/export.rt:109:1
 returns-3 : tie.Need-returns-3
 returns-3 c = its-line (c .before .before .before .before .before .before .before .before .before .before .before .before .before .before .before .before .args .list .now) (c .before .before .before .before .before .before .before .before .before .before .before .before .before .before .before .before .args .path) (c .before .before .before .before .before .before .before .before .before .before .before .before .before .before .before .before .args .i) (c .before .before .before .before .before .before .before .before .before .before .before .before .before .before .before .before .args .last) (c .before .before .before .before .before .before .before .before .before .before .before .before .before .before .before .before .args .out .now) (c .before .before .before .before .before .before .before .before .before .before .before .before .before .before .before .before .args .at) (sym (c .before .before .before .before .before .before .before .before .before .before .before .before .before .word-at .ensures) ∙ c .before .before .before .before .before .before .before .before .before .before .before .before .if1 .left) (c .before .before .before .before .before .before .before .before .before .before .before .word-at2 .result) (c .before .before .before .before .before .before .before .before .before .before .word-at3 .result) (c .before .before .before .before .before .before .before .before .before .word-at4 .result) (c .before .before .before .before .before .before .before .before .word-at5 .result) (c .before .before .before .before .before .before .before .goes-on .result) (c .before .before .before .before .before .before .before .before .before .before .before .word-at2 .ensures) (c .before .before .before .before .before .before .before .before .before .before .word-at3 .ensures) (c .before .before .before .before .before .before .before .before .before .word-at4 .ensures) (c .before .before .before .before .before .before .before .before .word-at5 .ensures) (c .before .before .before .before .before .before .before .goes-on .ensures) (c .before .before .before .before .before .put-line .result) _ _ (c .before .before .before .before .before .put-line .ensures) (c .before .n .given .1)
 
--- src/export.rt:109:1
 same-length-3 : tie.Need-same-length-3
 same-length-3 c = search needs
 
--- src/export.rt:109:1
 returns-4 : tie.Need-returns-4
 returns-4 c = its-line (c .before .before .before .before .before .before .before .before .before .before .before .before .before .before .before .before .args .list .now) (c .before .before .before .before .before .before .before .before .before .before .before .before .before .before .before .before .args .path) (c .before .before .before .before .before .before .before .before .before .before .before .before .before .before .before .before .args .i) (c .before .before .before .before .before .before .before .before .before .before .before .before .before .before .before .before .args .last) (c .before .before .before .before .before .before .before .before .before .before .before .before .before .before .before .before .args .out .now) (c .before .before .before .before .before .before .before .before .before .before .before .before .before .before .before .before .args .at) (sym (c .before .before .before .before .before .before .before .before .before .before .before .before .before .word-at .ensures) ∙ c .before .before .before .before .before .before .before .before .before .before .before .before .if1 .left) (c .before .before .before .before .before .before .before .before .before .before .before .word-at2 .result) (c .before .before .before .before .before .before .before .before .before .before .word-at3 .result) (c .before .before .before .before .before .before .before .before .before .word-at4 .result) (c .before .before .before .before .before .before .before .before .word-at5 .result) (c .before .before .before .before .before .before .before .goes-on .result) (c .before .before .before .before .before .before .before .before .before .before .before .word-at2 .ensures) (c .before .before .before .before .before .before .before .before .before .before .word-at3 .ensures) (c .before .before .before .before .before .before .before .before .before .word-at4 .ensures) (c .before .before .before .before .before .before .before .before .word-at5 .ensures) (c .before .before .before .before .before .before .before .goes-on .ensures) (c .before .before .before .before .before .put-line .result) _ _ (c .before .before .before .before .before .put-line .ensures) (c .before .n2 .given .1)
 

@@ -1,45 +1,34 @@
+-- `hpgl::reading::draw` meets its contract. Assumes nothing.
 use borrow.Author.Needs.{needs}
 use native.Mathlib.Omega.{arith}
 use Rattle.hpgl.specs.ReadingLaws.{place-fits, draw-at, draw-wrong, draw-beyond}
 use Rattle.hpgl.proofs.reading.draw.Statement.{statement}
 use Rattle.hpgl.proofs.reading.draw.Tie as tie
-use Rattle.hpgl.proofs.reading.draw.Reads as reads
-use Rattle.hpgl.proofs.reading.draw.Lts as lts
-use Rattle.hpgl.proofs.reading.read_point.Reads as read-point-reads
 
--- src/reading.rt:213:28
 add-read-point : tie.Need-add-read-point
 add-read-point c = search needs
 
--- src/reading.rt:213:11
 read-point-requires : tie.Need-read-point-requires
 read-point-requires c κs = search needs
 
--- src/reading.rt:214:19
 enum-known-t : tie.Need-enum-known-t
 enum-known-t c = search needs
 
--- src/reading.rt:214:50
 add-t11 : tie.Need-add-t11
 add-t11 c = omega (arith, place-fits (c .before .before .before .before .before .args .file .now) (c .before .before .before .before .before .args .at) (c .before .before .before .read-point .result) (c .before .before .before .read-point .ensures) _ _ (c .before .t .given .1), c .before .before .before .before .before .good .0)
 
--- src/reading.rt:215:22
 enum-known-p : tie.Need-enum-known-p
 enum-known-p c = search needs
 
--- src/reading.rt:216:23
 enum-known-p-2 : tie.Need-enum-known-p-2
 enum-known-p-2 c = search needs
 
--- src/reading.rt:209:1
 returns : tie.Need-returns
 returns c = draw-at (c .before .before .before .before .before .args .file .now) (c .before .before .before .before .before .args .at) (c .before .before .before .read-point .result) (c .before .before .before .read-point .ensures) (c .before .before .before .before .before .args .q) _ _ (c .before .t .given .1)
 
--- src/reading.rt:209:1
 returns-2 : tie.Need-returns-2
 returns-2 c = draw-wrong (c .before .before .before .before .before .args .file .now) (c .before .before .before .before .before .args .at) (c .before .before .before .read-point .result) (c .before .before .before .read-point .ensures) (c .before .before .before .before .before .args .q) _ (c .before .p .given .1)
 
--- src/reading.rt:209:1
 returns-3 : tie.Need-returns-3
 returns-3 c = draw-beyond (c .before .before .before .before .before .args .file .now) (c .before .before .before .before .before .args .at) (c .before .before .before .read-point .result) (c .before .before .before .read-point .ensures) (c .before .before .before .before .before .args .q) _ (c .before .p2 .given .1)
 

@@ -1,19 +1,15 @@
+-- `hpgl::reading::is_at` meets its contract. Assumes nothing.
 use borrow.Author.Needs.{needs}
 use Rattle.hpgl.specs.ReadingLaws.{byte-in, byte-out}
 use Rattle.hpgl.proofs.reading.is_at.Statement.{statement}
 use Rattle.hpgl.proofs.reading.is_at.Tie as tie
-use Rattle.hpgl.proofs.reading.is_at.Reads as reads
-use Rattle.hpgl.proofs.reading.is_at.Lts as lts
 
--- src/reading.rt:321:16
 shared-slice-read-result : tie.Need-shared-slice-read-result
 shared-slice-read-result c = search needs
 
--- src/reading.rt:321:9
 returns : tie.Need-returns
 returns c = byte-in (c .before .before .args .file .now) (c .before .before .args .at) (c .before .before .args .b) (c .before .if1 .taken)
 
--- src/reading.rt:317:1
 returns-2 : tie.Need-returns-2
 returns-2 c = byte-out (c .before .args .file .now) (c .before .args .at) (c .before .args .b) (c .if1 .left)
 

@@ -1,14 +1,11 @@
+-- `hpgl::reading::keep` meets its contract. Assumes nothing.
 use Rattle.hpgl.specs.ReadingLaws.{kept-in, kept-out}
 use Rattle.hpgl.proofs.reading.keep.Statement.{statement}
 use Rattle.hpgl.proofs.reading.keep.Tie as tie
-use Rattle.hpgl.proofs.reading.keep.Reads as reads
-use Rattle.hpgl.proofs.reading.keep.Lts as lts
 
--- src/reading.rt:49:9
 returns : tie.Need-returns
 returns c = kept-in (c .before .args .s) (c .before .args .w) (c .if1 .taken)
 
--- src/reading.rt:45:1
 returns-2 : tie.Need-returns-2
 returns-2 c = kept-out (c .before .args .s) (c .before .args .w) (c .if1 .left)
 

@@ -1,45 +1,34 @@
+-- `hpgl::reading::lift` meets its contract. Assumes nothing.
 use borrow.Author.Needs.{needs}
 use native.Mathlib.Omega.{arith}
 use Rattle.hpgl.specs.ReadingLaws.{place-fits, lift-at, lift-wrong, lift-beyond}
 use Rattle.hpgl.proofs.reading.lift.Statement.{statement}
 use Rattle.hpgl.proofs.reading.lift.Tie as tie
-use Rattle.hpgl.proofs.reading.lift.Reads as reads
-use Rattle.hpgl.proofs.reading.lift.Lts as lts
-use Rattle.hpgl.proofs.reading.read_point.Reads as read-point-reads
 
--- src/reading.rt:201:28
 add-read-point : tie.Need-add-read-point
 add-read-point c = search needs
 
--- src/reading.rt:201:11
 read-point-requires : tie.Need-read-point-requires
 read-point-requires c κs = search needs
 
--- src/reading.rt:202:19
 enum-known-t : tie.Need-enum-known-t
 enum-known-t c = search needs
 
--- src/reading.rt:202:45
 add-t10 : tie.Need-add-t10
 add-t10 c = omega (arith, place-fits (c .before .before .before .before .before .args .file .now) (c .before .before .before .before .before .args .at) (c .before .before .before .read-point .result) (c .before .before .before .read-point .ensures) _ _ (c .before .t .given .1), c .before .before .before .before .before .good .0)
 
--- src/reading.rt:203:22
 enum-known-p : tie.Need-enum-known-p
 enum-known-p c = search needs
 
--- src/reading.rt:204:23
 enum-known-p-2 : tie.Need-enum-known-p-2
 enum-known-p-2 c = search needs
 
--- src/reading.rt:197:1
 returns : tie.Need-returns
 returns c = lift-at (c .before .before .before .before .before .args .file .now) (c .before .before .before .before .before .args .at) (c .before .before .before .read-point .result) (c .before .before .before .read-point .ensures) _ _ (c .before .t .given .1)
 
--- src/reading.rt:197:1
 returns-2 : tie.Need-returns-2
 returns-2 c = lift-wrong (c .before .before .before .before .before .args .file .now) (c .before .before .before .before .before .args .at) (c .before .before .before .read-point .result) (c .before .before .before .read-point .ensures) _ (c .before .p .given .1)
 
--- src/reading.rt:197:1
 returns-3 : tie.Need-returns-3
 returns-3 c = lift-beyond (c .before .before .before .before .before .args .file .now) (c .before .before .before .before .before .args .at) (c .before .before .before .read-point .result) (c .before .before .before .read-point .ensures) _ (c .before .p2 .given .1)
 

@@ -1,51 +1,38 @@
+-- `hpgl::reading::num_step` meets its contract. Assumes nothing.
 use borrow.Author.Needs.{needs}
 use mathlib.Core.Path.{_∙_}
 use Rattle.hpgl.specs.Reading.{numStep}
 use Rattle.hpgl.specs.ReadingLaws.{byte-dash, byte-low, byte-digit, byte-high}
 use Rattle.hpgl.proofs.reading.num_step.Statement.{statement}
 use Rattle.hpgl.proofs.reading.num_step.Tie as tie
-use Rattle.hpgl.proofs.reading.num_step.Reads as reads
-use Rattle.hpgl.proofs.reading.num_step.Lts as lts
-use Rattle.hpgl.proofs.reading.on_dash.Reads as on-dash-reads
-use Rattle.hpgl.proofs.reading.on_digit.Reads as on-digit-reads
-use Rattle.hpgl.proofs.reading.on_other.Reads as on-other-reads
 
--- src/reading.rt:117:9
 on-dash-requires : tie.Need-on-dash-requires
 on-dash-requires c κs = search needs
 
--- src/reading.rt:117:9
 returns : tie.Need-returns
 unfolding numStep
 returns c = c .on-dash .ensures ∙ rw (byte-dash (c .before .before .args .b) (c .before .if1 .taken))
 
--- src/reading.rt:120:9
 on-other-requires : tie.Need-on-other-requires
 on-other-requires c κs = search needs
 
--- src/reading.rt:120:9
 returns-2 : tie.Need-returns-2
 unfolding numStep
 returns-2 c = c .on-other .ensures ∙ rw (byte-low (c .before .before .before .args .b) (c .before .before .if1 .left) (c .before .if2 .taken))
 
--- src/reading.rt:123:28
 cast-on-digit : tie.Need-cast-on-digit
 cast-on-digit c = search needs
 
--- src/reading.rt:123:9
 on-digit-requires : tie.Need-on-digit-requires
 on-digit-requires c κs = search needs
 
--- src/reading.rt:123:9
 returns-3 : tie.Need-returns-3
 unfolding numStep
 returns-3 c = c .on-digit .ensures ∙ rw (byte-digit (c .before .before .before .before .args .b) (c .before .before .before .if1 .left) (c .before .before .if2 .left) (c .before .if3 .taken))
 
--- src/reading.rt:125:5
 on-other-requires-2 : tie.Need-on-other-requires-2
 on-other-requires-2 c κs = search needs
 
--- src/reading.rt:112:1
 returns-4 : tie.Need-returns-4
 unfolding numStep
 returns-4 c = c .on-other2 .ensures ∙ rw (byte-high (c .before .before .before .before .args .b) (c .before .before .before .if1 .left) (c .before .before .if2 .left) (c .before .if3 .left))

@@ -1,82 +1,62 @@
+-- `hpgl::reading::on_digit` meets its contract. Assumes nothing.
 use borrow.Author.Needs.{needs}
 use mathlib.Core.Path.{_∙_}
 use native.Mathlib.Omega.{arith}
 use Rattle.hpgl.specs.ReadingLaws.{good-some, digit-first, digit-more}
 use Rattle.hpgl.proofs.reading.on_digit.Statement.{statement}
 use Rattle.hpgl.proofs.reading.on_digit.Tie as tie
-use Rattle.hpgl.proofs.reading.on_digit.Reads as reads
-use Rattle.hpgl.proofs.reading.on_digit.Lts as lts
-use Rattle.hpgl.proofs.reading.keep.Reads as keep-reads
 
--- src/reading.rt:81:16
 enum-told : tie.Need-enum-told
 enum-told c = search needs
 
--- src/reading.rt:82:17
 returns : tie.Need-returns
 returns c = rw (c .before .enum-told .given .1) (digit-first (c .before .before .before .args .d) (c .if1 .taken) .0)
 
--- src/reading.rt:84:25
 sub-keep : tie.Need-sub-keep
 sub-keep c = search needs
 
--- src/reading.rt:84:13
 keep-requires : tie.Need-keep-requires
 keep-requires c κs = search needs
 
--- src/reading.rt:87:16
 enum-told-2 : tie.Need-enum-told-2
 enum-told-2 c = search needs
 
--- src/reading.rt:88:17
 returns-2 : tie.Need-returns-2
 returns-2 c = rw (c .before .enum-told2 .given .1) (digit-first (c .before .before .before .args .d) (c .if2 .taken) .1)
 
--- src/reading.rt:90:24
 sub-keep-2 : tie.Need-sub-keep-2
 sub-keep-2 c = search needs
 
--- src/reading.rt:90:13
 keep-requires-2 : tie.Need-keep-requires-2
 keep-requires-2 c κs = search needs
 
--- src/reading.rt:92:24
 enum-told-3 : tie.Need-enum-told-3
 enum-told-3 c = search needs
 
--- src/reading.rt:93:19
 enum-known-n : tie.Need-enum-known-n
 enum-known-n c = search needs
 
--- src/reading.rt:93:36
 mul-keep : tie.Need-mul-keep
 mul-keep c = omega (arith, good-some (c .before .before .before .args .n) _ _ (c .before .n .given .1) (c .before .before .before .pre .0))
 
--- src/reading.rt:93:36
 add-keep : tie.Need-add-keep
 add-keep c = omega (arith, good-some (c .before .before .before .args .n) _ _ (c .before .n .given .1) (c .before .before .before .pre .0))
 
--- src/reading.rt:93:36
 add-keep-2 : tie.Need-add-keep-2
 add-keep-2 c = omega (arith, good-some (c .before .before .before .args .n) _ _ (c .before .n .given .1) (c .before .before .before .pre .0))
 
--- src/reading.rt:93:28
 keep-requires-3 : tie.Need-keep-requires-3
 keep-requires-3 c κs = search needs
 
--- src/reading.rt:75:1
 returns-3 : tie.Need-returns-3
 returns-3 c = c .keep .ensures ∙ rw (c .before .before .enum-told .given .1) (digit-more (c .before .before .before .before .args .d) (c .before .if1 .left) .0)
 
--- src/reading.rt:75:1
 returns-4 : tie.Need-returns-4
 returns-4 c = c .keep2 .ensures ∙ rw (c .before .before .enum-told2 .given .1) (digit-more (c .before .before .before .before .args .d) (c .before .if2 .left) .1)
 
--- src/reading.rt:75:1
 returns-5 : tie.Need-returns-5
 returns-5 c = search needs
 
--- src/reading.rt:75:1
 returns-6 : tie.Need-returns-6
 returns-6 c = c .keep3 .ensures ∙ rw (c .before .before .n .given .1)
 

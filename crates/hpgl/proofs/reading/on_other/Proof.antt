@@ -1,3 +1,4 @@
+-- `hpgl::reading::on_other` meets its contract. Assumes nothing.
 use borrow.Author.Needs.{needs}
 use mathlib.Core.Path.{ap}
 use borrow.Author.Tests.{not-true, not-false}
@@ -6,47 +7,34 @@ use Rattle.hpgl.specs.declared.reading.NumStep.the-variants.{Done}
 use Rattle.hpgl.proofs.Signed.{value-back}
 use Rattle.hpgl.proofs.reading.on_other.Statement.{statement}
 use Rattle.hpgl.proofs.reading.on_other.Tie as tie
-use Rattle.hpgl.proofs.reading.on_other.Reads as reads
-use Rattle.hpgl.proofs.reading.on_other.Lts as lts
-use Rattle.hpgl.proofs.reading.value_of.Reads as value-of-reads
 
--- src/reading.rt:105:9
 returns : tie.Need-returns
 returns c = rw (not-true (c .before .args .ends) (c .if1 .taken)) (other-wrong (c .before .args .n))
 
--- src/reading.rt:108:22
 enum-told : tie.Need-enum-told
 enum-told c = search needs
 
--- src/reading.rt:109:24
 enum-told-2 : tie.Need-enum-told-2
 enum-told-2 c = search needs
 
--- src/reading.rt:110:24
 enum-told-3 : tie.Need-enum-told-3
 enum-told-3 c = search needs
 
--- src/reading.rt:111:19
 enum-known-n : tie.Need-enum-known-n
 enum-known-n c = search needs
 
--- src/reading.rt:111:42
 value-of-requires : tie.Need-value-of-requires
 value-of-requires c κs = good-some (c .before .before .before .before .args .n) _ _ (c .before .n .given .1) (c .before .before .before .before .pre)
 
--- src/reading.rt:100:1
 returns-2 : tie.Need-returns-2
 returns-2 c = search needs
 
--- src/reading.rt:100:1
 returns-3 : tie.Need-returns-3
 returns-3 c = search needs
 
--- src/reading.rt:100:1
 returns-4 : tie.Need-returns-4
 returns-4 c = rw (c .enum-told3 .given .1, not-false (c .before .before .before .args .ends) (c .before .before .if1 .left))
 
--- src/reading.rt:100:1
 returns-5 : tie.Need-returns-5
 returns-5 c = rw (c .before .before .n .given .1, not-false (c .before .before .before .before .before .args .ends) (c .before .before .before .before .if1 .left), c .value-of .ensures) (ap Done (value-back _ _ (good-some (c .before .before .before .before .before .args .n) _ _ (c .before .before .n .given .1) (c .before .before .before .before .before .pre))))
 

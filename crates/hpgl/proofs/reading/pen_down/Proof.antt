@@ -1,44 +1,33 @@
+-- `hpgl::reading::pen_down` meets its contract. Assumes nothing.
 use borrow.Author.Needs.{needs}
 use Rattle.hpgl.specs.ReadingLaws.{down-fresh, down-lifted, down-drawn}
 use Rattle.hpgl.proofs.reading.pen_down.Statement.{statement}
 use Rattle.hpgl.proofs.reading.pen_down.Tie as tie
-use Rattle.hpgl.proofs.reading.pen_down.Reads as reads
-use Rattle.hpgl.proofs.reading.pen_down.Lts as lts
-use Rattle.hpgl.proofs.reading.draw.Reads as draw-reads
 
--- src/reading.rt:238:40
 enum-told : tie.Need-enum-told
 enum-told c = search needs
 
--- src/reading.rt:238:40
 add-t7 : tie.Need-add-t7
 add-t7 c = search needs
 
--- src/reading.rt:239:23
 enum-known-stand : tie.Need-enum-known-stand
 enum-known-stand c = search needs
 
--- src/reading.rt:239:29
 draw-requires : tie.Need-draw-requires
 draw-requires c κs = search needs
 
--- src/reading.rt:240:22
 enum-known-stand-2 : tie.Need-enum-known-stand-2
 enum-known-stand-2 c = search needs
 
--- src/reading.rt:240:28
 draw-requires-2 : tie.Need-draw-requires-2
 draw-requires-2 c κs = search needs
 
--- src/reading.rt:233:1
 returns : tie.Need-returns
 returns c = rw (c .enum-told .given .1) (down-fresh (c .before .before .before .args .file .now) (c .before .before .before .args .at))
 
--- src/reading.rt:233:1
 returns-2 : tie.Need-returns-2
 returns-2 c = rw (c .before .before .stand .given .1) (down-lifted (c .before .before .before .before .before .args .file .now) (c .before .before .before .before .before .args .at) _ _ (c .draw .ensures))
 
--- src/reading.rt:233:1
 returns-3 : tie.Need-returns-3
 returns-3 c = rw (c .before .before .stand2 .given .1) (down-drawn (c .before .before .before .before .before .args .file .now) (c .before .before .before .before .before .args .at) _ _ (c .draw2 .ensures))
 

@@ -1,44 +1,33 @@
+-- `hpgl::reading::pen_up` meets its contract. Assumes nothing.
 use borrow.Author.Needs.{needs}
 use Rattle.hpgl.specs.ReadingLaws.{up-fresh, up-lifted, up-drawn}
 use Rattle.hpgl.proofs.reading.pen_up.Statement.{statement}
 use Rattle.hpgl.proofs.reading.pen_up.Tie as tie
-use Rattle.hpgl.proofs.reading.pen_up.Reads as reads
-use Rattle.hpgl.proofs.reading.pen_up.Lts as lts
-use Rattle.hpgl.proofs.reading.lift.Reads as lift-reads
 
--- src/reading.rt:226:25
 enum-told : tie.Need-enum-told
 enum-told c = search needs
 
--- src/reading.rt:226:25
 lift-requires : tie.Need-lift-requires
 lift-requires c κs = search needs
 
--- src/reading.rt:227:44
 enum-told-2 : tie.Need-enum-told-2
 enum-told-2 c = search needs
 
--- src/reading.rt:227:44
 add-t5 : tie.Need-add-t5
 add-t5 c = search needs
 
--- src/reading.rt:228:28
 enum-told-3 : tie.Need-enum-told-3
 enum-told-3 c = search needs
 
--- src/reading.rt:228:28
 lift-requires-2 : tie.Need-lift-requires-2
 lift-requires-2 c κs = search needs
 
--- src/reading.rt:221:1
 returns : tie.Need-returns
 returns c = rw (c .before .enum-told .given .1) (up-fresh (c .before .before .before .before .args .file .now) (c .before .before .before .before .args .at) _ (c .lift .ensures))
 
--- src/reading.rt:221:1
 returns-2 : tie.Need-returns-2
 returns-2 c = rw (c .enum-told2 .given .1) (up-lifted (c .before .before .before .args .file .now) (c .before .before .before .args .at) _)
 
--- src/reading.rt:221:1
 returns-3 : tie.Need-returns-3
 returns-3 c = rw (c .before .enum-told3 .given .1) (up-drawn (c .before .before .before .before .args .file .now) (c .before .before .before .before .args .at) _ _ (c .lift2 .ensures))
 

@@ -1,47 +1,35 @@
+-- `hpgl::reading::read` meets its contract. Assumes nothing.
 use borrow.Author.Needs.{needs}
 use mathlib.Core.Path.{_∙_, sym}
 use borrow.Author.Tests.{not-true, not-false}
 use Rattle.hpgl.specs.ReadingLaws.{no-i, no-n, no-end, all-in, three-in}
 use Rattle.hpgl.proofs.reading.read.Statement.{statement}
 use Rattle.hpgl.proofs.reading.read.Tie as tie
-use Rattle.hpgl.proofs.reading.read.Reads as reads
-use Rattle.hpgl.proofs.reading.read.Lts as lts
-use Rattle.hpgl.proofs.reading.is_at.Reads as is-at-reads
-use Rattle.hpgl.proofs.reading.read_all.Reads as read-all-reads
 
--- src/reading.rt:334:9
 is-at-requires : tie.Need-is-at-requires
 is-at-requires c κs = search needs
 
--- src/reading.rt:335:9
 returns : tie.Need-returns
 returns c = no-i (c .before .before .before .args .file .now) (c .before .before .before .args .lines .now) (sym (c .before .is-at .ensures) ∙ not-true _ (c .if1 .taken))
 
--- src/reading.rt:337:9
 is-at-requires-2 : tie.Need-is-at-requires-2
 is-at-requires-2 c κs = search needs
 
--- src/reading.rt:338:9
 returns-2 : tie.Need-returns-2
 returns-2 c = no-n (c .before .before .before .before .before .args .file .now) (c .before .before .before .before .before .args .lines .now) (sym (c .before .before .before .is-at .ensures) ∙ not-false _ (c .before .before .if1 .left)) (sym (c .before .is-at2 .ensures) ∙ not-true _ (c .if2 .taken))
 
--- src/reading.rt:340:9
 is-at-requires-3 : tie.Need-is-at-requires-3
 is-at-requires-3 c κs = search needs
 
--- src/reading.rt:341:9
 returns-3 : tie.Need-returns-3
 returns-3 c = no-end (c .before .before .before .before .before .before .before .args .file .now) (c .before .before .before .before .before .before .before .args .lines .now) (sym (c .before .before .before .before .before .is-at .ensures) ∙ not-false _ (c .before .before .before .before .if1 .left)) (sym (c .before .before .before .is-at2 .ensures) ∙ not-false _ (c .before .before .if2 .left)) (sym (c .before .is-at3 .ensures) ∙ not-true _ (c .if3 .taken))
 
--- src/reading.rt:343:5
 read-all-requires : tie.Need-read-all-requires
 read-all-requires c κs = three-in (c .before .before .before .before .before .before .before .before .args .file .now) (c .before .before .before .before .before .before .before .before .args .lines .now) (sym (c .before .before .before .before .before .before .is-at .ensures) ∙ not-false _ (c .before .before .before .before .before .if1 .left)) (sym (c .before .before .before .before .is-at2 .ensures) ∙ not-false _ (c .before .before .before .if2 .left)) (sym (c .before .before .is-at3 .ensures) ∙ not-false _ (c .before .if3 .left))
 
--- src/reading.rt:331:1
 same-length : tie.Need-same-length
 same-length c = search needs
 
--- src/reading.rt:331:1
 returns-4 : tie.Need-returns-4
 returns-4 c = c .before .read-all .ensures ∙ all-in (c .before .before .before .before .before .before .before .before .before .before .args .file .now) (c .before .before .before .before .before .before .before .before .before .before .args .lines .now) (sym (c .before .before .before .before .before .before .before .before .is-at .ensures) ∙ not-false _ (c .before .before .before .before .before .before .before .if1 .left)) (sym (c .before .before .before .before .before .before .is-at2 .ensures) ∙ not-false _ (c .before .before .before .before .before .if2 .left)) (sym (c .before .before .before .before .is-at3 .ensures) ∙ not-false _ (c .before .before .before .if3 .left))
 

@@ -1,61 +1,45 @@
+-- `hpgl::reading::read_command` meets its contract. Assumes nothing.
 use borrow.Author.Needs.{needs}
 use Rattle.hpgl.specs.ReadingLaws.{no-p, stops-short, letter-up, letter-down, no-letter}
 use Rattle.hpgl.proofs.reading.read_command.Statement.{statement}
 use Rattle.hpgl.proofs.reading.read_command.Tie as tie
-use Rattle.hpgl.proofs.reading.read_command.Reads as reads
-use Rattle.hpgl.proofs.reading.read_command.Lts as lts
-use Rattle.hpgl.proofs.reading.pen_down.Reads as pen-down-reads
-use Rattle.hpgl.proofs.reading.pen_up.Reads as pen-up-reads
 
--- src/reading.rt:248:8
 shared-slice-read-if1 : tie.Need-shared-slice-read-if1
 shared-slice-read-if1 c = search needs
 
--- src/reading.rt:249:9
 returns : tie.Need-returns
 returns c = no-p (c .before .before .before .args .file .now) (c .before .before .before .args .at) (c .before .before .before .pre) (c .before .before .before .args .stand) (c .if1 .taken)
 
--- src/reading.rt:251:8
 sub-if2 : tie.Need-sub-if2
 sub-if2 c = search needs
 
--- src/reading.rt:252:31
 add-t10 : tie.Need-add-t10
 add-t10 c = search needs
 
--- src/reading.rt:252:9
 returns-2 : tie.Need-returns-2
 returns-2 c = stops-short (c .before .before .before .before .args .file .now) (c .before .before .before .before .args .at) (c .before .before .before .before .pre) (c .before .before .before .before .args .stand) (c .before .if1 .left) (c .if2 .taken)
 
--- src/reading.rt:254:23
 add-letter : tie.Need-add-letter
 add-letter c = search needs
 
--- src/reading.rt:254:18
 shared-slice-read-letter : tie.Need-shared-slice-read-letter
 shared-slice-read-letter c = search needs
 
--- src/reading.rt:256:9
 pen-up-requires : tie.Need-pen-up-requires
 pen-up-requires c κs = search needs
 
--- src/reading.rt:256:9
 returns-3 : tie.Need-returns-3
 returns-3 c = letter-up (c .before .before .before .before .before .before .before .args .file .now) (c .before .before .before .before .before .before .before .args .at) (c .before .before .before .before .before .before .before .pre) (c .before .before .before .before .before .before .before .args .stand) (c .before .before .before .before .if1 .left) (c .before .before .before .if2 .left) (c .before .if3 .taken) _ (c .pen-up .ensures)
 
--- src/reading.rt:259:9
 pen-down-requires : tie.Need-pen-down-requires
 pen-down-requires c κs = search needs
 
--- src/reading.rt:259:9
 returns-4 : tie.Need-returns-4
 returns-4 c = letter-down (c .before .before .before .before .before .before .before .before .args .file .now) (c .before .before .before .before .before .before .before .before .args .at) (c .before .before .before .before .before .before .before .before .pre) (c .before .before .before .before .before .before .before .before .args .stand) (c .before .before .before .before .before .if1 .left) (c .before .before .before .before .if2 .left) (c .before .if4 .taken) _ (c .pen-down .ensures)
 
--- src/reading.rt:261:20
 add-t9 : tie.Need-add-t9
 add-t9 c = search needs
 
--- src/reading.rt:244:1
 returns-5 : tie.Need-returns-5
 returns-5 c = no-letter (c .before .before .before .before .before .before .before .args .file .now) (c .before .before .before .before .before .before .before .args .at) (c .before .before .before .before .before .before .before .pre) (c .before .before .before .before .before .before .before .args .stand) (c .before .before .before .before .if1 .left) (c .before .before .before .if2 .left) (c .before .if3 .left) (c .if4 .left)
 

@@ -1,3 +1,4 @@
+-- `hpgl::reading::store` meets its contract. Assumes nothing.
 use borrow.Author.Needs.{needs}
 use native.Mathlib.Omega.{arith}
 use lib.ListN.{length-set}
@@ -5,58 +6,43 @@ use Rattle.numbers.proofs.Integers.{read-back}
 use Rattle.hpgl.specs.ReadingLaws.{stored-line}
 use Rattle.hpgl.proofs.reading.store.Statement.{statement}
 use Rattle.hpgl.proofs.reading.store.Tie as tie
-use Rattle.hpgl.proofs.reading.store.Reads as reads
-use Rattle.hpgl.proofs.reading.store.Lts as lts
 
--- src/reading.rt:273:5
 mul-a : tie.Need-mul-a
 mul-a c = search needs
 
--- src/reading.rt:273:5
 slice-set-from-a : tie.Need-slice-set-from-a
 slice-set-from-a c = search needs
 
--- src/reading.rt:274:11
 add-b : tie.Need-add-b
 add-b c = search needs
 
--- src/reading.rt:274:5
 mul-b : tie.Need-mul-b
 mul-b c = search needs
 
--- src/reading.rt:274:5
 slice-set-from-b : tie.Need-slice-set-from-b
 slice-set-from-b c = simp length-set (omega arith)
 
--- src/reading.rt:275:11
 add-c : tie.Need-add-c
 add-c c = search needs
 
--- src/reading.rt:275:5
 mul-c : tie.Need-mul-c
 mul-c c = search needs
 
--- src/reading.rt:275:5
 slice-set-from-c : tie.Need-slice-set-from-c
 slice-set-from-c c = simp length-set (omega arith)
 
--- src/reading.rt:276:11
 add-d : tie.Need-add-d
 add-d c = search needs
 
--- src/reading.rt:276:5
 mul-d : tie.Need-mul-d
 mul-d c = search needs
 
--- src/reading.rt:276:5
 slice-set-from-d : tie.Need-slice-set-from-d
 slice-set-from-d c = simp length-set (omega arith)
 
--- src/reading.rt:265:1
 same-length : tie.Need-same-length
 same-length c = search needs
 
--- src/reading.rt:265:1
 returns : tie.Need-returns
 returns c = stored-line (c .before .before .before .before .args .lines .now) (c .before .before .before .before .args .at) (c .before .before .before .before .args .q .x) (c .before .before .before .before .args .q .y) (c .before .before .before .before .args .t .x) (c .before .before .before .before .args .t .y) _ _ _ _ (read-back {z = c .before .before .before .before .args .q .x} (c .before .before .before .struct-told .given .0 .1)) (read-back {z = c .before .before .before .before .args .q .y} (c .before .before .struct-told2 .given .1 .0 .1)) (read-back {z = c .before .before .before .before .args .t .x} (c .before .struct-told3 .given .0 .1)) (read-back {z = c .before .before .before .before .args .t .y} (c .struct-told4 .given .1 .0 .1))
 

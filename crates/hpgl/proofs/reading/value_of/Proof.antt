@@ -1,3 +1,4 @@
+-- `hpgl::reading::value_of` meets its contract. Assumes nothing.
 use borrow.Author.Needs.{needs}
 use Rattle.numbers.proofs.Integers.{plus, minus, minus-fits}
 use mathlib.Core.Path.{_∙_}
@@ -7,27 +8,20 @@ use native.Mathlib.Omega.{arith}
 use Rattle.hpgl.specs.Reading.{valueOf}
 use Rattle.hpgl.proofs.reading.value_of.Statement.{statement}
 use Rattle.hpgl.proofs.reading.value_of.Tie as tie
-use Rattle.hpgl.proofs.reading.value_of.Reads as reads
-use Rattle.hpgl.proofs.reading.value_of.Lts as lts
 
--- src/reading.rt:58:17
 add-size : tie.Need-add-size
 add-size c = search needs
 
--- src/reading.rt:58:16
 cast-size : tie.Need-cast-size
 cast-size c = search needs
 
--- src/reading.rt:60:16
 sub-result : tie.Need-sub-result
 sub-result c = minus-fits (c .before .args .w + 1) (omega arith)
 
--- src/reading.rt:60:9
 returns : tie.Need-returns
 unfolding valueOf
 returns c = minus (c .before .args .w + 1) (omega arith) ∙ rw (c .if1 .taken, add-one (c .before .args .w))
 
--- src/reading.rt:54:1
 returns-2 : tie.Need-returns-2
 unfolding valueOf
 returns-2 c = plus (c .before .args .w + 1) (omega arith) ∙ rw (c .if1 .left, add-one (c .before .args .w))

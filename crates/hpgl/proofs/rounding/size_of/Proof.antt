@@ -1,3 +1,4 @@
+-- `hpgl::rounding::size_of` meets its contract. Assumes nothing.
 use borrow.Author.Needs.{needs}
 use mathlib.Core.Path.{_∙_, ap}
 use Prim.Native.Nat.{_+_}
@@ -6,31 +7,22 @@ use lib.Ieee.Nearest.{closest}
 use Rattle.hpgl.specs.Bits.{size-low, size-high, unit-is, unit-pos}
 use Rattle.hpgl.proofs.rounding.size_of.Statement.{statement}
 use Rattle.hpgl.proofs.rounding.size_of.Tie as tie
-use Rattle.hpgl.proofs.rounding.size_of.Reads as reads
-use Rattle.hpgl.proofs.rounding.size_of.Lts as lts
-use Rattle.hpgl.proofs.rounding.nearest_of.Reads as nearest-of-reads
 
--- src/rounding.rt:30:9
 returns : tie.Need-returns
 returns c = size-low (c .before .args .field) (c .before .args .digits) (c .if1 .taken)
 
--- src/rounding.rt:32:16
 add-nearest-of : tie.Need-add-nearest-of
 add-nearest-of c = search needs
 
--- src/rounding.rt:32:40
 sub-nearest-of : tie.Need-sub-nearest-of
 sub-nearest-of c = search needs
 
--- src/rounding.rt:32:34
 shl-nearest-of : tie.Need-shl-nearest-of
 shl-nearest-of c = search needs
 
--- src/rounding.rt:32:5
 nearest-of-requires : tie.Need-nearest-of-requires
 nearest-of-requires c κs = (omega arith, unit-pos (c .before .args .field) (c .if1 .left))
 
--- src/rounding.rt:25:1
 returns-2 : tie.Need-returns-2
 returns-2 c = c .nearest-of .ensures ∙ ap (closest (8388608 + c .before .before .args .digits)) (unit-is (c .before .before .args .field) (c .before .if1 .left)) ∙ size-high (c .before .before .args .field) (c .before .before .args .digits) (c .before .if1 .left)
 

@@ -1,28 +1,21 @@
+-- `hpgl::text::command_length` meets its contract. Assumes nothing.
 use borrow.Author.Needs.{needs}
 use Rattle.hpgl.specs.CommandLaws.{command-size}
 use Rattle.hpgl.proofs.text.command_length.Statement.{statement}
 use Rattle.hpgl.proofs.text.command_length.Tie as tie
-use Rattle.hpgl.proofs.text.command_length.Reads as reads
-use Rattle.hpgl.proofs.text.command_length.Lts as lts
-use Rattle.hpgl.proofs.text.number_length.Reads as number-length-reads
 
--- src/text.rt:118:9
 number-length-requires : tie.Need-number-length-requires
 number-length-requires c κs = search needs
 
--- src/text.rt:118:5
 add-result : tie.Need-add-result
 add-result c = search needs
 
--- src/text.rt:118:32
 number-length-requires-2 : tie.Need-number-length-requires-2
 number-length-requires-2 c κs = search needs
 
--- src/text.rt:118:5
 add-result-2 : tie.Need-add-result-2
 add-result-2 c = search needs
 
--- src/text.rt:115:1
 returns : tie.Need-returns
 returns c = command-size (c .before .before .args .draws) (c .before .before .args .sx) (c .before .before .args .x) (c .before .before .args .sy) (c .before .before .args .y) (c .before .number-length .result) (c .number-length2 .result) (c .before .number-length .ensures .is) (c .number-length2 .ensures .is)
 

@@ -1,28 +1,21 @@
+-- `hpgl::text::number_length` meets its contract. Assumes nothing.
 use borrow.Author.Needs.{needs}
 use Rattle.hpgl.specs.TextLaws.{long-zero, long-minus, long-plus}
 use Rattle.hpgl.proofs.text.number_length.Statement.{statement}
 use Rattle.hpgl.proofs.text.number_length.Tie as tie
-use Rattle.hpgl.proofs.text.number_length.Reads as reads
-use Rattle.hpgl.proofs.text.number_length.Lts as lts
-use Rattle.hpgl.proofs.text.decimal_length.Reads as decimal-length-reads
 
--- src/text.rt:104:9
 decimal-length-requires : tie.Need-decimal-length-requires
 decimal-length-requires c κs = search needs
 
--- src/text.rt:106:9
 returns : tie.Need-returns
 returns c = long-zero (c .before .before .args .s) (c .before .before .args .size) (c .before .decimal-length .result) (c .if1 .taken) (c .before .decimal-length .ensures)
 
--- src/text.rt:109:16
 add-result : tie.Need-add-result
 add-result c = search needs
 
--- src/text.rt:109:9
 returns-2 : tie.Need-returns-2
 returns-2 c = long-minus (c .before .before .before .args .s) (c .before .before .before .args .size) (c .before .before .decimal-length .result) (c .if2 .taken) (c .before .if1 .left) (c .before .before .decimal-length .ensures)
 
--- src/text.rt:101:1
 returns-3 : tie.Need-returns-3
 returns-3 c = long-plus (c .before .before .before .args .s) (c .before .before .before .args .size) (c .before .before .decimal-length .result) (c .if2 .left) (c .before .before .decimal-length .ensures)
 

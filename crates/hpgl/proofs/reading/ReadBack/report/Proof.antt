@@ -1,42 +1,33 @@
+-- `hpgl::reading::ReadBack::report` meets its contract. Assumes nothing.
 use borrow.Author.Needs.{needs}
 use Rattle.hpgl.specs.Reading.{backReport}
 use Rattle.hpgl.proofs.reading.ReadBack.report.Statement.{statement}
 use Rattle.hpgl.proofs.reading.ReadBack.report.Tie as tie
-use Rattle.hpgl.proofs.reading.ReadBack.report.Reads as reads
-use Rattle.hpgl.proofs.reading.ReadBack.report.Lts as lts
 
--- src/reading.rt:353:29
 enum-known-self : tie.Need-enum-known-self
 enum-known-self c = search needs
 
--- src/reading.rt:358:33
 enum-known-self-2 : tie.Need-enum-known-self-2
 enum-known-self-2 c = search needs
 
--- src/reading.rt:363:30
 enum-known-self-3 : tie.Need-enum-known-self-3
 enum-known-self-3 c = search needs
 
--- src/reading.rt:368:28
 enum-known-self-4 : tie.Need-enum-known-self-4
 enum-known-self-4 c = search needs
 
--- src/reading.rt:349:5
 returns : tie.Need-returns
 unfolding backReport
 returns c = rw (c .before .self .given .1)
 
--- src/reading.rt:349:5
 returns-2 : tie.Need-returns-2
 unfolding backReport
 returns-2 c = rw (c .before .self2 .given .1)
 
--- src/reading.rt:349:5
 returns-3 : tie.Need-returns-3
 unfolding backReport
 returns-3 c = rw (c .before .self3 .given .1)
 
--- src/reading.rt:349:5
 returns-4 : tie.Need-returns-4
 unfolding backReport
 returns-4 c = rw (c .before .self4 .given .1)
