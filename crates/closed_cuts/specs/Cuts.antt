@@ -15,7 +15,7 @@ use Rattle.drawing.specs.Sheet.{Event, line, noCount, noJoin}
 use Rattle.watertight.specs.Count.{startsBy, endsBy, oneWhere}
 use Rattle.watertight.specs.Fill.{Call, Accepted, pathAt, drawnAt}
 use Rattle.watertight.specs.Stored.{one}
-use Rattle.own_lists.specs.Fills.{listOf}
+use Rattle.own_lists.specs.Fills.{listOf, OnlyClosedFills}
 use Rattle.own_lists.specs.Pass.{fills-even}
 use Rattle.hpgl.specs.Text.{pick}
 use Rattle.hpgl.specs.Form.{Line, Range}
@@ -96,6 +96,10 @@ module _ (c : Call) (a : Accepted c) (path : ℕ) (p : Point) where
 
     lines-balance : startsAt p (roundedLines path (listOf c a)) ≡ endsAt p (roundedLines path (listOf c a))
     lines-balance = starts-tally path p (listOf c a) ∙ balanced ∙ sym (ends-tally path p (listOf c a))
+
+-- every path of a call that draws closed fills and nothing else is such a path
+pub each-path : (c : Call) → OnlyClosedFills c → (path : ℕ) → ClosedPath c path
+each-path c f path = record { outlines = f .outlines; closed-fills = f .closed-fills; nothing-else = λ i m. ⊎-elim inl (λ e. inr (inr e)) (f .nothing-else i m) }
 
 -- ---- the theorem: the export of a path all of whose lines come from closed runs of fills, read back, has every plotter point as a start exactly as often as an end
 pub closed-cut : (r : Range) (c : Call) (a : Accepted c) (path : ℕ) → ClosedPath c path → (room : ℕ) → T (isWritten (exportOf r path room (listOf c a) .verdict))

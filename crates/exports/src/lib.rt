@@ -1,4 +1,4 @@
-// The C interface: each function is one of `maths`, `scene`, `flatten` or `checker` under a name that C and Rust
+// The C interface: each function is one of `maths`, `scene`, `flatten`, `checker` or `hpgl` under a name that C and Rust
 // can link. See include/hinthevoun.h.
 ghost use mathlib.Core.Path.{_≡_};
 ghost use Rattle.maths.specs.Numbers.{halfOf};

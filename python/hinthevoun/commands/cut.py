@@ -21,7 +21,7 @@ Examples:
 
   hinth cut samples/socket.lines --path 0 -o brim.hpgl    the brim with its opening
   hinth draw samples/socket.lines brim.hpgl -o both.svg   the cut laid over the drawing
-  hinth flatten part.sheet | hinth cut - --path 1 | nc table 9100
+  hinth flatten part.sheet | hinth cut - --path 1 -o seam.hpgl
 
 The file is `IN;`, and for each chain of lines a `PU` to its start and a `PD` to each end, without a space or a line end.
 A unit of the list is a plotter unit. Coordinates are taken to the nearest whole number, ties to even. A new chain starts
