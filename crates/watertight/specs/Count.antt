@@ -1,6 +1,6 @@
--- How often a device point, by its bits, is the start of a line and how often an end: among lines, and among their records. Definitions only.
+-- How often a device point is the start of a line and how often an end: among lines, and among their records. Definitions only.
 use Prim.Native.Nat.{ℕ, zero, suc, _+_}
-use mathlib.Core.Bool.{Bool, true, false, _&&_}
+use mathlib.Core.Bool.{Bool, true, false, _&&_, cond}
 use mathlib.Core.List.{List, [], _∷_}
 use lib.Dec.{eqb}
 use lib.ListN.{getD, drop}
@@ -13,23 +13,42 @@ unfoldable pub once : Bool → ℕ
 once true = 1
 once false = 0
 
--- 1 where the point's bits are the words x and y, else 0
+-- ---- among lines
+
+-- the sum of a count of points over the starts of the lines, and over their ends
+unfoldable pub startsBy : (Vec2 → ℕ) → List Event → ℕ
+startsBy at [] = 0
+startsBy at (line p q ∷ es) = at p + startsBy at es
+startsBy at (noCount ∷ es) = startsBy at es
+startsBy at (noJoin ∷ es) = startsBy at es
+
+unfoldable pub endsBy : (Vec2 → ℕ) → List Event → ℕ
+endsBy at [] = 0
+endsBy at (line p q ∷ es) = at q + endsBy at es
+endsBy at (noCount ∷ es) = endsBy at es
+endsBy at (noJoin ∷ es) = endsBy at es
+
+-- 1 where the point's words, each taken by `by`, are x and y, else 0
+abbrev pub isAtBy : (ℕ → ℕ) → ℕ → ℕ → Vec2 → ℕ
+isAtBy by x y p = once (eqb (by (toBits binary32 (p .x))) x && eqb (by (toBits binary32 (p .y))) y)
+
+-- ---- among records
+
+-- how often the words x and y, each word taken by `by`, stand side by side at the place `at` of the first n records, of six words each: a line's start stands at place 2, its end at place 4
+unfoldable pub amongBy : (ℕ → ℕ) → ℕ → ℕ → ℕ → ℕ → List ℕ → ℕ
+amongBy by at x y zero ws = 0
+amongBy by at x y (suc n) ws = once (eqb (by (getD ws at 0)) x && eqb (by (getD ws (at + 1) 0)) y) + amongBy by at x y n (drop 6 ws)
+
+-- ---- by the bits: each word as it is
+
+abbrev pub itself : ℕ → ℕ
+itself w = w
+
 abbrev pub isAt : ℕ → ℕ → Vec2 → ℕ
-isAt x y p = once (eqb (toBits binary32 (p .x)) x && eqb (toBits binary32 (p .y)) y)
+isAt x y p = isAtBy itself x y p
 
-unfoldable pub starts : ℕ → ℕ → List Event → ℕ
-starts x y [] = 0
-starts x y (line p q ∷ es) = isAt x y p + starts x y es
-starts x y (noCount ∷ es) = starts x y es
-starts x y (noJoin ∷ es) = starts x y es
+abbrev pub starts : ℕ → ℕ → List Event → ℕ
+starts x y es = startsBy (isAt x y) es
 
-unfoldable pub ends : ℕ → ℕ → List Event → ℕ
-ends x y [] = 0
-ends x y (line p q ∷ es) = isAt x y q + ends x y es
-ends x y (noCount ∷ es) = ends x y es
-ends x y (noJoin ∷ es) = ends x y es
-
--- how often the words x and y stand side by side at the place `at` of the first n records, of six words each: a line's start stands at place 2, its end at place 4
-unfoldable pub among : ℕ → ℕ → ℕ → ℕ → List ℕ → ℕ
-among at x y zero ws = 0
-among at x y (suc n) ws = once (eqb (getD ws at 0) x && eqb (getD ws (at + 1) 0) y) + among at x y n (drop 6 ws)
+abbrev pub ends : ℕ → ℕ → List Event → ℕ
+ends x y es = endsBy (isAt x y) es

@@ -17,7 +17,7 @@ use Rattle.flatten.specs.Call.{Outcome, said, callOf}
 use Rattle.flatten.specs.declared.boxes.PathBox.{PathBox}
 use Rattle.flatten.specs.declared.call.Layout.{Layout}
 use Rattle.flatten.specs.declared.tag.Head.{Head}
-use Rattle.watertight.specs.Count.{among}
+use Rattle.watertight.specs.Count.{amongBy, itself}
 
 -- ---- a call: what it is given, and what it is lent
 
@@ -140,7 +140,11 @@ unfoldable pub countBefore : Call → ℕ → ℕ
 countBefore c zero = 0
 countBefore c (suc i) = countBefore c i + length (drawnAt c i)
 
--- how often the words x and y stand at a place of the records of these tags; the records of a tag stand behind those of all tags before it
-unfoldable pub stored : Call → ℕ → ℕ → ℕ → List ℕ → ℕ
-stored c at x y [] = 0
-stored c at x y (i ∷ is) = among at x y (length (drawnAt c i)) (drop (countBefore c i * 6) (outcome c .lines)) + stored c at x y is
+-- how often the words x and y, each word taken by `by`, stand at a place of the records of these tags; the records of a tag stand behind those of all tags before it
+unfoldable pub storedBy : (ℕ → ℕ) → Call → ℕ → ℕ → ℕ → List ℕ → ℕ
+storedBy by c at x y [] = 0
+storedBy by c at x y (i ∷ is) = amongBy by at x y (length (drawnAt c i)) (drop (countBefore c i * 6) (outcome c .lines)) + storedBy by c at x y is
+
+-- the same by the bits
+abbrev pub stored : Call → ℕ → ℕ → ℕ → List ℕ → ℕ
+stored c at x y is = storedBy itself c at x y is

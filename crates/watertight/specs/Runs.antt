@@ -50,7 +50,7 @@ module _ (c : Call) (z : List Float) where
   -- each point is a start as often as an end, but that the first is once more a start and the last once more an end
   pub open-run : (i : ℕ) (js : List ℕ) → Each Leads (i ∷ js) → Follows c i js → (x y : ℕ)
       → starts x y (linesOf c (i ∷ js)) + isAt x y (written z (lastOf c (final i js))) ≡ ends x y (linesOf c (i ∷ js)) + isAt x y (written z (firstOf c i))
-  open-run i js h m x y = open-ends x y _ _ (linesOf c (i ∷ js)) (run-lines (i ∷ js) h) (run-chain i js h m)
+  open-run i js h m x y = open-ends (isAt x y) _ _ (linesOf c (i ∷ js)) (run-lines (i ∷ js) h) (run-chain i js h m)
 
   -- and these two are one where the last ends where the first began
   pub closed-run : (i : ℕ) (js : List ℕ) → Each Leads (i ∷ js) → Follows c i js → Closed c i js → (x y : ℕ) → starts x y (linesOf c (i ∷ js)) ≡ ends x y (linesOf c (i ∷ js))

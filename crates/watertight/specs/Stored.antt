@@ -7,9 +7,9 @@ use native.Mathlib.Decide.{ℕ-discrete}
 use lib.ListN.{length, drop}
 use lib.Seq.{drop-at}
 use Rattle.flatten.specs.Step.{tagWord}
-use Rattle.watertight.specs.Count.{among, starts, ends}
+use Rattle.watertight.specs.Count.{startsBy, endsBy, isAtBy, amongBy}
 use Rattle.watertight.specs.Balance.{in-records, starts-append, ends-append}
-use Rattle.watertight.specs.Fill.{Call, Accepted, outcome, tags, headOf, drawnAt, Filled, Each, linesOf, countBefore, stored}
+use Rattle.watertight.specs.Fill.{Call, Accepted, outcome, tags, headOf, drawnAt, Each, linesOf, countBefore, storedBy}
 use Rattle.watertight.specs.Accepted.{recordsAt, recordsBefore, length-before, done}
 
 module _ (c : Call) (accepted : Accepted c) where
@@ -45,23 +45,23 @@ module _ (c : Call) (accepted : Accepted c) where
         is = ap (drop (countBefore c i * 6)) all ∙ drop-at (recordsBefore c i) (recordsAt c i ++ behind) (countBefore c i * 6) (length-before c i (λ j l. d .sound j (omega arith)));
       }
 
-  module _ (x y : ℕ) where
+  module _ (by : ℕ → ℕ) (x y : ℕ) where
     abbrev Counts : ℕ → List ℕ → ℕ → ℕ → Type 0
-    Counts n ws s e = (among 2 x y n ws ≡ s) × (among 4 x y n ws ≡ e)
+    Counts n ws s e = (amongBy by 2 x y n ws ≡ s) × (amongBy by 4 x y n ws ≡ e)
 
-    one : (i : ℕ) → i < tags c → Counts (length (drawnAt c i)) (drop (countBefore c i * 6) (outcome c .lines)) (starts x y (drawnAt c i)) (ends x y (drawnAt c i))
+    one : (i : ℕ) → i < tags c → Counts (length (drawnAt c i)) (drop (countBefore c i * 6) (outcome c .lines)) (startsBy (isAtBy by x y) (drawnAt c i)) (endsBy (isAtBy by x y) (drawnAt c i))
     unfolding recordsAt
     one i h =
         let p = place i h in
-        rw (p .is) (in-records x y (headOf c i .tag .monoid .«path_ix») (tagWord i) (drawnAt c i) (p .rest) (done c accepted .sound i h .lines))
+        rw (p .is) (in-records by x y (headOf c i .tag .monoid .«path_ix») (tagWord i) (drawnAt c i) (p .rest) (done c accepted .sound i h .lines))
 
-    pub as-drawn : (z : List ℕ) (is : List ℕ) → Each (Filled c z) is
-        → (stored c 2 x y is ≡ starts x y (linesOf c is)) × (stored c 4 x y is ≡ ends x y (linesOf c is))
-    unfolding Each stored linesOf starts ends
-    as-drawn z [] h = (refl, refl)
-    as-drawn z (i ∷ is) h =
-        let o = one i (h .0 .in-call) in
-        let a = as-drawn z is (h .1) in (
-          omega (arith, o .0, a .0, starts-append x y (drawnAt c i) (linesOf c is)),
-          omega (arith, o .1, a .1, ends-append x y (drawnAt c i) (linesOf c is)),
+    pub as-drawn : (is : List ℕ) → Each (λ i. i < tags c) is
+        → (storedBy by c 2 x y is ≡ startsBy (isAtBy by x y) (linesOf c is)) × (storedBy by c 4 x y is ≡ endsBy (isAtBy by x y) (linesOf c is))
+    unfolding Each storedBy linesOf startsBy endsBy
+    as-drawn [] h = (refl, refl)
+    as-drawn (i ∷ is) h =
+        let o = one i (h .0) in
+        let a = as-drawn is (h .1) in (
+          omega (arith, o .0, a .0, starts-append (isAtBy by x y) (drawnAt c i) (linesOf c is)),
+          omega (arith, o .1, a .1, ends-append (isAtBy by x y) (drawnAt c i) (linesOf c is)),
         )

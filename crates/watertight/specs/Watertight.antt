@@ -6,7 +6,7 @@ use mathlib.Core.List.{List, [], _∷_}
 use lib.ListN.{length}
 use Rattle.curve.specs.Chain.{Chain}
 use Rattle.scene.specs.Reading.{floatsAt}
-use Rattle.watertight.specs.Count.{isAt, starts, ends}
+use Rattle.watertight.specs.Count.{itself, isAt, starts, ends}
 use Rattle.watertight.specs.Fill.{Call, Accepted, drawnAt, firstOf, lastOf, writtenBy, Filled, Each, Run, final, Closed, linesOf, stored}
 use Rattle.watertight.specs.FillLaws.{fill-few, fill-chain-of}
 use Rattle.watertight.specs.Runs.{Leads, open-run, closed-run}
@@ -45,7 +45,7 @@ few c a i js r =
 pub watertight-stored : (c : Call) → Accepted c → (i : ℕ) (js : List ℕ) → Run c i js → Closed c i js
     → (x y : ℕ) → stored c 2 x y (i ∷ js) ≡ stored c 4 x y (i ∷ js)
 watertight-stored c a i js r closed x y =
-    let k = as-drawn c a x y (r .z) (i ∷ js) (r .filled) in
+    let k = as-drawn c a itself x y (i ∷ js) (each _ _ (λ k f. f .in-call) (i ∷ js) (r .filled)) in
     k .0 ∙ watertight c a i js r closed x y ∙ sym (k .1)
 
 -- a run that is not closed stays open: its first point, as written, is once more a start and its last once more an end, and all others balance
