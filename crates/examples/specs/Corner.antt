@@ -32,10 +32,11 @@ use Rattle.flatten.specs.Boxes.{freshBox, hasExtent, markedOf, mergedOf, change
 use Rattle.flatten.specs.Tag.{_>>=_, boxed, headAt, finiteOnly, neighborAt, strokeBy, strokeAt, shapeAt, eventsBy, eventsAt}
 use Rattle.flatten.specs.Step.{drawnOf, changeOf, turnOf, refusedAt, stepFromBy, stepBy}
 use Rattle.flatten.specs.Call.{firstTurn, startOf, taken, onwardBy, afterBy, answerOf, said, toldOf, callBy}
-use Rattle.watertight.specs.Count.{once, startsBy, endsBy}
+use Rattle.records.specs.Record.{key, once}
+use Rattle.watertight.specs.Count.{startsBy, endsBy}
 use Rattle.watertight.specs.Fill.{Call, Accepted, outcome, headOr, headOf, eventsOr, drawnAt}
 use Rattle.watertight.specs.Fill as watertight
-use Rattle.strokes.specs.Number.{plain, starts, ends}
+use Rattle.strokes.specs.Number.{starts, ends}
 use Rattle.strokes.specs.Stroke.{halfWidth, joinCorners, strokeCubic, Style, Stroked, endsSubpath, run, HasWidth, OpenStroke, plusCoincides, minusCoincides}
 use Rattle.strokes.specs.Tight.{strokes-watertight}
 
@@ -82,7 +83,7 @@ record Computed : Type 0 where
   narrow-ends : ends 0xbf7fffff 0x3f800000 (watertight.linesOf (corner narrow) (run 2 3)) ≡ 1
 
 computed : Computed
-unfolding flatten ofBits ofInt toBits toSigned toUnsigned round neg add sub mul div lt le eq isNan signOf signed absOf halfUnits halfFields halfOf before maxOf clampOf wholeOf floorOf ceilOf sqrtOf hypotOf trig.boundedOf trig.sinNear trig.cosNear trig.reducedOf trig.curveOf trig.waveOf trig.sinOf trig.cosOf trig.angleOf trig.atan2Of addOf subOf mulOf dotOf lengthOf lengthSquaredOf mixOf angleOf hasNan eqOf identityOf applyOf fittedError errorRatio longChord fromPointsDerivs fromAngles wordAt tagSums plus byteAt sumsBelow tagData prefixAt withPrefix tagIn tagOf i16Of i16Point pointWords pointAt lineCubic pointCount raised scene.cubicOf reaches segmentOf floatsAt transformOf flagsOf lowerOf higherOf emptyBox boxWith hasRoom sheet.stored drawOn draw drawAll cubicPoint cubicDeriv cubicAt isShort firstTip tipAt paramsOf multiplierOf integrandOf robustOf nFracOf fitOf lineOf curve.linesOf rangeOf rangeEnd tipOf isNear curve.accepted walk isPoint sideEvents eulerEvents shapeEvents freshBox hasExtent markedOf mergedOf changedOf changedAt _>>=_ boxed headAt finiteOnly allFinite shapeAt eventsBy eventsAt drawnOf changeOf turnOf refusedAt stepFromBy stepBy firstTurn startOf taken onwardBy afterBy answerOf toldOf callBy startTangent endTangent firstLong neighborAt strokeBy strokeAt widthOf localSide sidesEvents endEvents strokeEvents startCapEvents edgesOf tangentsOf steadyOf quarter neighborOf normalizeOf divOf negOf capEvents capBy squareCap joinEvents joinBy bevelEvents cornersOf cross watertight.linesOf drawnAt eventsOr headOf headOr run startsBy endsBy plain once corner cornerStyle strokeCubic halfWidth joinCorners placeOf
+unfolding flatten ofBits ofInt toBits toSigned toUnsigned round neg add sub mul div lt le eq isNan signOf signed absOf halfUnits halfFields halfOf before maxOf clampOf wholeOf floorOf ceilOf sqrtOf hypotOf trig.boundedOf trig.sinNear trig.cosNear trig.reducedOf trig.curveOf trig.waveOf trig.sinOf trig.cosOf trig.angleOf trig.atan2Of addOf subOf mulOf dotOf lengthOf lengthSquaredOf mixOf angleOf hasNan eqOf identityOf applyOf fittedError errorRatio longChord fromPointsDerivs fromAngles wordAt tagSums plus byteAt sumsBelow tagData prefixAt withPrefix tagIn tagOf i16Of i16Point pointWords pointAt lineCubic pointCount raised scene.cubicOf reaches segmentOf floatsAt transformOf flagsOf lowerOf higherOf emptyBox boxWith hasRoom sheet.stored drawOn draw drawAll cubicPoint cubicDeriv cubicAt isShort firstTip tipAt paramsOf multiplierOf integrandOf robustOf nFracOf fitOf lineOf curve.linesOf rangeOf rangeEnd tipOf isNear curve.accepted walk isPoint sideEvents eulerEvents shapeEvents freshBox hasExtent markedOf mergedOf changedOf changedAt _>>=_ boxed headAt finiteOnly allFinite shapeAt eventsBy eventsAt drawnOf changeOf turnOf refusedAt stepFromBy stepBy firstTurn startOf taken onwardBy afterBy answerOf toldOf callBy startTangent endTangent firstLong neighborAt strokeBy strokeAt widthOf localSide sidesEvents endEvents strokeEvents startCapEvents edgesOf tangentsOf steadyOf quarter neighborOf normalizeOf divOf negOf capEvents capBy squareCap joinEvents joinBy bevelEvents cornersOf cross watertight.linesOf drawnAt eventsOr headOf headOr run startsBy endsBy key once corner cornerStyle strokeCubic halfWidth joinCorners placeOf
 computed =
     record {
       two-wide = refl;
@@ -121,7 +122,7 @@ one P a (suc (suc zero)) g l = a
 one P a (suc (suc (suc k))) g l = absurd (omega arith)
 
 pub corner-stroke : (w : ℕ) → HasWidth (cornerStyle w) → OpenStroke (corner w) 2 2
-unfolding flatten ofBits ofInt toBits toSigned toUnsigned round neg add sub mul div lt le eq isNan signOf signed absOf halfUnits halfFields halfOf before maxOf clampOf wholeOf floorOf ceilOf sqrtOf hypotOf trig.boundedOf trig.sinNear trig.cosNear trig.reducedOf trig.curveOf trig.waveOf trig.sinOf trig.cosOf trig.angleOf trig.atan2Of addOf subOf mulOf dotOf lengthOf lengthSquaredOf mixOf angleOf hasNan eqOf identityOf applyOf fittedError errorRatio longChord fromPointsDerivs fromAngles wordAt tagSums plus byteAt sumsBelow tagData prefixAt withPrefix tagIn tagOf i16Of i16Point pointWords pointAt lineCubic pointCount raised scene.cubicOf reaches segmentOf floatsAt transformOf flagsOf lowerOf higherOf emptyBox boxWith hasRoom sheet.stored drawOn draw drawAll cubicPoint cubicDeriv cubicAt isShort firstTip tipAt paramsOf multiplierOf integrandOf robustOf nFracOf fitOf lineOf curve.linesOf rangeOf rangeEnd tipOf isNear curve.accepted walk isPoint sideEvents eulerEvents shapeEvents freshBox hasExtent markedOf mergedOf changedOf changedAt _>>=_ boxed headAt finiteOnly allFinite shapeAt eventsBy eventsAt drawnOf changeOf turnOf refusedAt stepFromBy stepBy firstTurn startOf taken onwardBy afterBy answerOf toldOf callBy startTangent endTangent firstLong neighborAt strokeBy strokeAt widthOf localSide sidesEvents endEvents strokeEvents startCapEvents edgesOf tangentsOf steadyOf quarter neighborOf normalizeOf divOf negOf capEvents capBy squareCap joinEvents joinBy bevelEvents cornersOf cross watertight.linesOf drawnAt eventsOr headOf headOr run startsBy endsBy plain once corner cornerStyle strokeCubic halfWidth joinCorners placeOf watertight.pointOf
+unfolding flatten ofBits ofInt toBits toSigned toUnsigned round neg add sub mul div lt le eq isNan signOf signed absOf halfUnits halfFields halfOf before maxOf clampOf wholeOf floorOf ceilOf sqrtOf hypotOf trig.boundedOf trig.sinNear trig.cosNear trig.reducedOf trig.curveOf trig.waveOf trig.sinOf trig.cosOf trig.angleOf trig.atan2Of addOf subOf mulOf dotOf lengthOf lengthSquaredOf mixOf angleOf hasNan eqOf identityOf applyOf fittedError errorRatio longChord fromPointsDerivs fromAngles wordAt tagSums plus byteAt sumsBelow tagData prefixAt withPrefix tagIn tagOf i16Of i16Point pointWords pointAt lineCubic pointCount raised scene.cubicOf reaches segmentOf floatsAt transformOf flagsOf lowerOf higherOf emptyBox boxWith hasRoom sheet.stored drawOn draw drawAll cubicPoint cubicDeriv cubicAt isShort firstTip tipAt paramsOf multiplierOf integrandOf robustOf nFracOf fitOf lineOf curve.linesOf rangeOf rangeEnd tipOf isNear curve.accepted walk isPoint sideEvents eulerEvents shapeEvents freshBox hasExtent markedOf mergedOf changedOf changedAt _>>=_ boxed headAt finiteOnly allFinite shapeAt eventsBy eventsAt drawnOf changeOf turnOf refusedAt stepFromBy stepBy firstTurn startOf taken onwardBy afterBy answerOf toldOf callBy startTangent endTangent firstLong neighborAt strokeBy strokeAt widthOf localSide sidesEvents endEvents strokeEvents startCapEvents edgesOf tangentsOf steadyOf quarter neighborOf normalizeOf divOf negOf capEvents capBy squareCap joinEvents joinBy bevelEvents cornersOf cross watertight.linesOf drawnAt eventsOr headOf headOr run startsBy endsBy key once corner cornerStyle strokeCubic halfWidth joinCorners placeOf watertight.pointOf
 corner-stroke w h =
     record {
       style = cornerStyle w;

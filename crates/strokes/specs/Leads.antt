@@ -14,35 +14,36 @@ use Rattle.spiral.specs.Points.{SamePoint}
 use Rattle.spiral.specs.declared.util.Vec2.{Vec2}
 use Rattle.drawing.specs.Sheet.{Event, line, noCount, noJoin}
 use Rattle.curve.specs.Chain.{Chain}
-use Rattle.watertight.specs.Count.{once, startsBy, endsBy, isAtBy}
+use Rattle.records.specs.Record.{key, once}
+use Rattle.watertight.specs.Count.{startsBy, endsBy}
 use Rattle.watertight.specs.Balance.{AllLines, open-ends, starts-append, ends-append}
-use Rattle.strokes.specs.Number.{plain}
+use Rattle.strokes.specs.Number.{isAt}
 
 -- ---- points that are equal as numbers count as one
-zero-word : (s : Bool) (e : ℤ) → plain (toBits binary32 (fin s zero e)) ≡ 0
-unfolding toBits size span climb plain
+zero-word : (s : Bool) (e : ℤ) → key (toBits binary32 (fin s zero e)) ≡ 0
+unfolding toBits size span climb key
 zero-word s e =
     let h : 0 * up e * 2 ^ 149 / down e ≡ 0 = ap (λ (n : ℕ). n / down e) (null (up e) (2 ^ 149)) ∙ zero-div (down e) in
-    ap (λ (n : ℕ). plain (cond s 0x80000000 0 + (size n - 24) * 0x800000 + n / 2 ^ (size n - 24))) h ∙ go s
+    ap (λ (n : ℕ). key (cond s 0x80000000 0 + (size n - 24) * 0x800000 + n / 2 ^ (size n - 24))) h ∙ go s
   where
-    go : (s : Bool) → plain (cond s 0x80000000 0 + (size 0 - 24) * 0x800000 + 0 / 2 ^ (size 0 - 24)) ≡ 0
+    go : (s : Bool) → key (cond s 0x80000000 0 + (size 0 - 24) * 0x800000 + 0 / 2 ^ (size 0 - 24)) ≡ 0
     go true = refl
     go false = refl
 
-is-zero-word : (x : Float) → T (isZero x) → plain (toBits binary32 x) ≡ 0
+is-zero-word : (x : Float) → T (isZero x) → key (toBits binary32 x) ≡ 0
 is-zero-word nan z = absurd z
 is-zero-word (inf s) z = absurd z
 is-zero-word (fin s (suc m) e) z = absurd z
 is-zero-word (fin s zero e) z = zero-word s e
 
-pub same-word : (x y : Float) → Same x y → plain (toBits binary32 x) ≡ plain (toBits binary32 y)
-same-word x y (inl p) = ap (λ (z : Float). plain (toBits binary32 z)) p
+pub same-word : (x y : Float) → Same x y → key (toBits binary32 x) ≡ key (toBits binary32 y)
+same-word x y (inl p) = ap (λ (z : Float). key (toBits binary32 z)) p
 same-word x y (inr z) = is-zero-word x (z .0) ∙ sym (is-zero-word y (z .1))
 
-pub at-same : (x y : ℕ) (p q : Vec2) → SamePoint p q → isAtBy plain x y p ≡ isAtBy plain x y q
+pub at-same : (x y : ℕ) (p q : Vec2) → SamePoint p q → isAt x y p ≡ isAt x y q
 at-same x y p q s =
-    ap (λ (w : ℕ). once (eqb w x && eqb (plain (toBits binary32 (p .y))) y)) (same-word (p .x) (q .x) (s .0))
-    ∙ ap (λ (w : ℕ). once (eqb (plain (toBits binary32 (q .x))) x && eqb w y)) (same-word (p .y) (q .y) (s .1))
+    ap (λ (w : ℕ). once (eqb w x && eqb (key (toBits binary32 (p .y))) y)) (same-word (p .x) (q .x) (s .0))
+    ∙ ap (λ (w : ℕ). once (eqb (key (toBits binary32 (q .x))) x && eqb w y)) (same-word (p .y) (q .y) (s .1))
 
 -- ---- lists
 pub all-split : (xs ys : List Event) → AllLines (xs ++ ys) → AllLines xs × AllLines ys

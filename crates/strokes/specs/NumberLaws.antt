@@ -15,8 +15,8 @@ use Rattle.laws.specs.Own.{eq→same}
 use Rattle.spiral.specs.Util.{hasNan, eqOf}
 use Rattle.spiral.specs.Points.{SamePoint, FitsPoint}
 use Rattle.spiral.specs.declared.util.Vec2.{Vec2}
-use Rattle.watertight.specs.Count.{once, isAtBy}
-use Rattle.strokes.specs.Number.{plain}
+use Rattle.records.specs.Record.{key, once}
+use Rattle.strokes.specs.Number.{isAt}
 use Rattle.strokes.specs.Leads.{same-word}
 
 from-word : (x : Float) (w : ℕ) → T (fits binary32 x) → toBits binary32 x ≡ w → x ≡ ofBits binary32 w
@@ -30,8 +30,8 @@ minus-zero-of : (x : Float) → T (fits binary32 x) → toBits binary32 x ≡ 0x
 unfolding ofBits
 minus-zero-of x f e = subst (λ (v : Float). T (isZero v)) (sym (from-word x 0x80000000 f e)) tt
 
-word→same : (x y : Float) → T (fits binary32 x) → T (fits binary32 y) → plain (toBits binary32 x) ≡ plain (toBits binary32 y) → Same x y
-unfolding plain
+word→same : (x y : Float) → T (fits binary32 x) → T (fits binary32 y) → key (toBits binary32 x) ≡ key (toBits binary32 y) → Same x y
+unfolding key
 word→same x y f g = go (eqb (toBits binary32 x) 0x80000000) (eqb (toBits binary32 y) 0x80000000) refl refl
   where
     equal : toBits binary32 x ≡ toBits binary32 y → Same x y
@@ -59,10 +59,10 @@ both-ways true false f g = absurd (f tt)
 both-ways false true f g = absurd (g tt)
 both-ways false false f g = refl
 
-pub word-as-number : (x y : Float) → T (fits binary32 x) → T (fits binary32 y) → T (not (isNan y)) → eqb (plain (toBits binary32 x)) (plain (toBits binary32 y)) ≡ eq x y
+pub word-as-number : (x y : Float) → T (fits binary32 x) → T (fits binary32 y) → T (not (isNan y)) → eqb (key (toBits binary32 x)) (key (toBits binary32 y)) ≡ eq x y
 word-as-number x y f g n =
-    both-ways (eqb (plain (toBits binary32 x)) (plain (toBits binary32 y))) (eq x y)
-    (λ t. let s = word→same x y f g (eqb→eq (plain (toBits binary32 x)) (plain (toBits binary32 y)) t) in same→eq x y (not-nan x y n s) s)
+    both-ways (eqb (key (toBits binary32 x)) (key (toBits binary32 y))) (eq x y)
+    (λ t. let s = word→same x y f g (eqb→eq (key (toBits binary32 x)) (key (toBits binary32 y)) t) in same→eq x y (not-nan x y n s) s)
     (λ t. eq→eqb (same-word x y (eq→same binary32 x y f g t)))
 
 neither : (a b : Bool) → T (not (a || b)) → T (not a) × T (not b)
@@ -70,7 +70,7 @@ neither true b h = absurd h
 neither false b h = (tt, h)
 
 -- a point p counts at the words of q exactly where the two are equal as numbers
-pub at-as-number : (p q : Vec2) → FitsPoint p → FitsPoint q → T (not (hasNan q)) → isAtBy plain (plain (toBits binary32 (q .x))) (plain (toBits binary32 (q .y))) p ≡ once (eqOf p q)
+pub at-as-number : (p q : Vec2) → FitsPoint p → FitsPoint q → T (not (hasNan q)) → isAt (key (toBits binary32 (q .x))) (key (toBits binary32 (q .y))) p ≡ once (eqOf p q)
 unfolding eqOf hasNan
 at-as-number p q f g n =
     let k = neither (isNan (q .x)) (isNan (q .y)) n in

@@ -18,7 +18,7 @@ use Rattle.scene.specs.Tags.{bit}
 use Rattle.scene.specs.Reading.{wide, marker, cubicOf, floatsAt, widthOf}
 use Rattle.refusals.specs.Refusals.{found}
 use Rattle.watertight.specs.Fill.{Call, tags, headOf, typeOf, firstOf, transformWords, Meets, storedBy}
-use Rattle.strokes.specs.Number.{plain}
+use Rattle.strokes.specs.Number.{keysAre}
 
 -- ---- one join
 
@@ -159,4 +159,4 @@ allLeftOut c s z i (suc (suc n)) = leftOut c s z i ++ allLeftOut c s z (suc i) (
 
 -- how often the words x and y, -0 taken for +0, stand at a place of the records of these tags
 abbrev pub stored : Call → ℕ → ℕ → ℕ → List ℕ → ℕ
-stored c at x y is = storedBy plain c at x y is
+stored c at x y = storedBy c (keysAre x y) at

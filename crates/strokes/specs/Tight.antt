@@ -16,11 +16,12 @@ use Rattle.segment.specs.Segment.{quarter, steadyOf, neighborOf, strokeEvents}
 use Rattle.segment.specs.declared.Neighbor.{Neighbor}
 use Rattle.scene.specs.Reading.{floatsAt}
 use Rattle.watertight.specs.Balance.{AllLines, starts-append, ends-append}
-use Rattle.watertight.specs.Fill.{Call, Accepted, tags, headOf, firstOf, lastOf, drawnAt, Each, linesOf}
+use Rattle.watertight.specs.Fill.{Call, Accepted, headOf, firstOf, lastOf, drawnAt, Each, linesOf}
 use Rattle.watertight.specs.Accepted.{Sound, done}
-use Rattle.watertight.specs.Count.{once, startsBy, endsBy, isAtBy}
+use Rattle.records.specs.Record.{once}
+use Rattle.watertight.specs.Count.{startsBy, endsBy}
 use Rattle.watertight.specs.Stored.{as-drawn}
-use Rattle.strokes.specs.Number.{plain, starts, ends, startsAt, endsAt}
+use Rattle.strokes.specs.Number.{keysAre, isAt, starts, ends, startsAt, endsAt}
 use Rattle.strokes.specs.Stroke.{strokeCubic, startPoint, endPoint, startAlong, halfOfStyle, Style, joinCorners, run, OpenStroke, isBevel, plusCoincides, minusCoincides, BevelsAgree, leftOut, allLeftOut, stored}
 use Rattle.strokes.specs.Leads.{at-same, Blind, Leads, Pair, given, closed-by, reorder, balanced}
 use Rattle.strokes.specs.Parts.{undrawn-balances}
@@ -197,24 +198,24 @@ strokes-balanced c a i n o b at blind =
 -- are bevel, if the two sides of each both coincide or both are apart
 pub strokes-watertight : (c : Call) → Accepted c → (i n : ℕ) (o : OpenStroke c i n) → BevelsAgree c (o .style) i n
     → (x y : ℕ) → starts x y (linesOf c (run i (suc n))) ≡ ends x y (linesOf c (run i (suc n)))
-strokes-watertight c a i n o b x y = strokes-balanced c a i n o b (isAtBy plain x y) (at-same x y)
+strokes-watertight c a i n o b x y = strokes-balanced c a i n o b (isAt x y) (at-same x y)
 
 -- the same said of numbers: as many lines start at a point that equals q as end at one
 pub strokes-watertight-numbers : (c : Call) → Accepted c → (i n : ℕ) (o : OpenStroke c i n) → BevelsAgree c (o .style) i n
     → (q : Vec2) → startsAt q (linesOf c (run i (suc n))) ≡ endsAt q (linesOf c (run i (suc n)))
 strokes-watertight-numbers c a i n o b q = strokes-balanced c a i n o b (λ p. once (eqOf p q)) (equal-same q)
 
--- all tags of a run are the call's
-in-call : (i n m : ℕ) → ((k : ℕ) → i ≤ k → k < i + n → k < m) → Each (λ k. k < m) (run i n)
+-- what holds of each tag from i on
+each-run : (P : ℕ → Type 0) (i n : ℕ) → ((k : ℕ) → i ≤ k → k < i + n → P k) → Each P (run i n)
 unfolding run Each
-in-call i zero m h = tt
-in-call i (suc n) m h = (h i (omega arith) (omega arith), in-call (suc i) n m (λ k g l. h k (omega arith) (omega arith)))
+each-run P i zero h = tt
+each-run P i (suc n) h = (h i (omega arith) (omega arith), each-run P (suc i) n (λ k g l. h k (omega arith) (omega arith)))
 
 -- as they stand in the lent words after the call, the records of these tags have each point, +0 and -0 being one, as a start, at place 2, exactly as often as an end, at place 4
 pub strokes-watertight-stored : (c : Call) → Accepted c → (i n : ℕ) (o : OpenStroke c i n) → BevelsAgree c (o .style) i n
     → (x y : ℕ) → stored c 2 x y (run i (suc n)) ≡ stored c 4 x y (run i (suc n))
 strokes-watertight-stored c a i n o b x y =
-    let k = as-drawn c a plain x y (run i (suc n)) (in-call i (suc n) (tags c) (λ k g l. o .stroked k g (omega arith) .in-call)) in
+    let k = as-drawn c a (keysAre x y) (isAt x y) (run i (suc n)) (each-run _ i (suc n) (λ k g l. record { in-call = o .stroked k g (omega arith) .in-call; path = refl })) in
     k .0 ∙ strokes-watertight c a i n o b x y ∙ sym (k .1)
 
 -- miter and round joins ask nothing more, whatever the caps
