@@ -1,3 +1,4 @@
 pub mod Call
 pub mod Scan
+pub mod Check
 pub mod Only
