@@ -10,3 +10,4 @@ pub mod Whose
 pub mod SetAside
 pub mod WhoseLaws
 pub mod BadTransform
+pub mod Found
