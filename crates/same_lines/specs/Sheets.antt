@@ -15,7 +15,7 @@ use Rattle.sheets.specs.Moving.{counts, isOld, newTag, total, all, xWord, yWord
 use Rattle.same_lines.specs.Conditions.{wordsOf, byteOf, bytesTo, counted, Scanned, Roomy, Few, ReadsCounted, Followed, SameLent, TagsMoved, PointsMoved, SameStyles, SameTransforms, SheetMoved}
 use Rattle.same_lines.specs.Pairs.{byte-at}
 use Rattle.sheets.specs.Back as back
-use Rattle.sheets.specs.Back.{all-says}
+use Rattle.sheets.specs.Back.{new-length, all-says}
 use Rattle.same_lines.specs.Flattens.{same-flattening}
 
 -- ---- the bytes of a call's tags
@@ -97,11 +97,6 @@ new-at (v ∷ ws) (suc w) h =
     let d : 2 * suc w + 1 ≡ suc (suc (2 * w + 1)) = omega arith in
     (ap (λ (k : ℕ). getD (newPoints (v ∷ ws)) k 0) e ∙ r .0, ap (λ (k : ℕ). getD (newPoints (v ∷ ws)) k 0) d ∙ r .1)
 
-new-length : (ws : List ℕ) → length (newPoints ws) ≡ 2 * length ws
-unfolding newPoints
-new-length [] = refl
-new-length (w ∷ ws) = omega (arith, new-length ws)
-
 zero-tag : newTag 0 ≡ 0
 unfolding newTag
 zero-tag = refl
@@ -139,7 +134,7 @@ module _ (old new : Call) (few : Few old) (m : SheetMoved old new) where
   some-length = length-take-le (total bytes) pts (taken .there)
 
   points-length : length (m .new-points) ≡ 2 * total bytes
-  points-length = ap length (taken .are-words) ∙ new-length some ∙ ap (λ (k : ℕ). 2 * k) some-length
+  points-length = ap length (taken .are-words) ∙ (let e : length (newPoints some) ≡ 2 * total bytes = omega (arith, new-length some, some-length) in e)
 
   -- a word of the new scene behind its data base
   new-word : (j : ℕ) → j < 2 * total bytes → getD (new .scene) (new .layout .«data_base» + j) 0 ≡ getD (newPoints some) j 0

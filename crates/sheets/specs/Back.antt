@@ -105,9 +105,14 @@ unfoldable pub AllU32 : List ℕ → Type 0
 AllU32 [] = Unit {0}
 AllU32 (w ∷ ws) = (w < 2 ^ 32) × AllU32 ws
 
-points-back : (ws : List ℕ) → AllU32 ws → (all goesBack (newPoints ws) ≡ true) × (oldPoints (newPoints ws) ≡ ws) × (length (newPoints ws) ≡ 2 * length ws)
+pub new-length : (ws : List ℕ) → length (newPoints ws) ≡ length ws * 2
+unfolding newPoints
+new-length [] = refl
+new-length (w ∷ ws) = omega (arith, new-length ws)
+
+points-back : (ws : List ℕ) → AllU32 ws → (all goesBack (newPoints ws) ≡ true) × (oldPoints (newPoints ws) ≡ ws)
 unfolding AllU32 newPoints oldPoints lead
-points-back [] u = (refl, refl, refl)
+points-back [] u = (refl, refl)
 points-back (w ∷ ws) u =
     let r = points-back ws (u .1) in
     let small = u .0 in
@@ -116,7 +121,6 @@ points-back (w ∷ ws) u =
     let is : w % 0x10000 + 0x10000 * (w / 0x10000) ≡ w = omega arith in (
       cons-all goesBack (xWord w) (yWord w ∷ newPoints ws) (x .0) (cons-all goesBack (yWord w) (newPoints ws) (y .0) (r .0)),
       rw (x .1, y .1, is, r .1),
-      omega (arith, r .2),
     )
 
 -- ---- there and back
@@ -153,7 +157,7 @@ there-and-back tags points tagRoom pointRoom ts ws behind tagRoom' pointRoom' u 
     let t = new-tags tags (a .kinds) in
     let p = points-back old u in
     let size : length old ≡ total tags = length-take-le (total tags) points (a .there) in
-    let long : length (newPoints old) ≡ 2 * total tags = omega (arith, p .2) in
+    let long : length (newPoints old) ≡ 2 * total tags = omega (arith, new-length old, size) in
     let cut : take (2 * total tags) (newPoints old ++ behind) ≡ newPoints old = take-at (newPoints old) behind (2 * total tags) long in
     let words : leb (2 * total tags) (length (newPoints old ++ behind)) ≡ true = (let l : 2 * total tags ≤ length (newPoints old ++ behind) = rw (length-append, long) (omega arith) in le-leb _ _ l) in
     let many : length (map newTag tags) ≡ length tags = length-map tags newTag in
@@ -177,12 +181,23 @@ pub record Went (r : Answer) : Type 0 where
   pub words : List ℕ
   pub is : r ≡ moved tags words
 
-went-says : (tags points : List ℕ) (tagRoom pointRoom : ℕ) (ts ws : List ℕ) → toI16 tags points tagRoom pointRoom ≡ moved ts ws → all goesBack (take (2 * total tags) points) ≡ true
+-- what went back was of the new kind, had its words, and each of these went back
+pub record WentBack (tags points : List ℕ) (ts ws : List ℕ) : Type 0 where
+  pub kinds : all isNew tags ≡ true
+  pub there : 2 * total tags ≤ length points
+  pub whole : all goesBack (take (2 * total tags) points) ≡ true
+  pub are-tags : ts ≡ map oldTag tags
+  pub are-words : ws ≡ oldPoints (take (2 * total tags) points)
+
+pub went-back : (tags points : List ℕ) (tagRoom pointRoom : ℕ) (ts ws : List ℕ) → toI16 tags points tagRoom pointRoom ≡ moved ts ws → WentBack tags points ts ws
 unfolding toI16
-went-says tags points tagRoom pointRoom ts ws e =
+went-back tags points tagRoom pointRoom ts ws e =
     let a = unless-says _ _ _ _ ts ws e in
     let b = unless-says _ _ _ _ ts ws (a .1) in
-    unless-says _ _ _ _ ts ws (b .1) .0
+    let c = unless-says _ _ _ _ ts ws (b .1) in
+    let d = unless-says _ _ _ _ ts ws (c .1) in
+    let is = d .1 in
+    record { kinds = a .0; there = leb-true _ _ (b .0); whole = c .0; are-tags = cc; are-words = cc }
 
 -- given an f32 sheet, its words and room, the way back succeeds exactly when each counted coordinate goes back
 pub back-exactly : (tags points : List ℕ) (tagRoom pointRoom : ℕ) → all isNew tags ≡ true → 2 * total tags ≤ length points → room (length tags) (total tags) tagRoom pointRoom ≡ true
@@ -193,7 +208,7 @@ back-exactly tags points tagRoom pointRoom kinds there fits =
     let size : length old ≡ 2 * total tags = length-take-le (2 * total tags) points there in (
       λ w. (λ i h.
           let in-old : i < length old = omega arith in
-          let good = went-says tags points tagRoom pointRoom (w .tags) (w .words) (w .is) in
+          let good = went-back tags points tagRoom pointRoom (w .tags) (w .words) (w .is) .whole in
           rw (getD-take (2 * total tags) points i 0 h) at (all-says goesBack old good i in-old)),
       λ f.
           let good : all goesBack old ≡ true = says-all goesBack old (λ i h. ap goesBack (getD-take (2 * total tags) points i 0 (omega arith)) ∙ f i (omega arith)) in
