@@ -1,3 +1,4 @@
 pub mod Table
 pub mod Triangle
 pub mod Corner
+pub mod Moved
