@@ -152,6 +152,25 @@ uint32_t hinth_flatten(uint32_t n_wg, uint32_t tag_base, uint32_t data_base, uin
                        size_t prefix_words, struct hinth_box *boxes, size_t n_boxes, uint32_t *lines, size_t line_words,
                        uint64_t *out, size_t out_len);
 
+/*
+ * Lists of lines: six words a record, as hinth_flatten stores them, by whoever made them.
+ *
+ * Checks a list of at most 2,000 records and changes nothing of it. It is sound exactly when no coordinate is a NaN or
+ * an infinity and, for each path number separately, every point is a start as often as an end; +0 and -0 are one. The
+ * second word of a record is ignored, and an empty list is sound. What the library draws for closed fills of one path
+ * each, up to 2,000 lines, passes where its coordinates are finite.
+ *
+ * The result is 0 if the list was looked at, or the number of its refusal, the first that holds:
+ *
+ *   50  the list has more than 2,000 whole records
+ *   51  its number of words is not a multiple of six
+ *
+ * out[0] is 0 for a sound list, 1 where a record has a bad number, 2 where none has and a record has its start or its end
+ * out of balance in its path; out[1] is the first such record, counted from 0. Both are 0 at a refusal. If out_len is
+ * under 2 neither is written. Nothing else of out is ever written.
+ */
+uint32_t hinth_check(const uint32_t *list, size_t list_words, uint64_t *out, size_t out_len);
+
 #ifdef __cplusplus
 }
 #endif

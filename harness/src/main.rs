@@ -2,6 +2,7 @@
 
 mod angles;
 mod bench;
+mod checker;
 mod exact;
 mod ffi;
 mod half;
@@ -40,6 +41,7 @@ fn main() -> ExitCode {
         ["full", only] => checks(Extent::Whole, only),
         ["bench"] => {
             bench::run();
+            checker::bench();
             ExitCode::SUCCESS
         }
         _ => {
@@ -52,11 +54,12 @@ fn main() -> ExitCode {
 /// Runs the checks whose names begin with `only`.
 fn checks(extent: Extent, only: &str) -> ExitCode {
     let mut report = Report::new(only);
-    report.check("C header: a C program that uses it", interface::header);
+    report.check("C header: C programs that use it", interface::header);
     report.check("Rust wrapper: its tests", interface::wrapper);
     roots::run(&mut report, extent);
     trig::run(&mut report, extent);
     angles::run(&mut report, extent);
+    checker::run(&mut report, extent);
     match report.close() {
         true => ExitCode::SUCCESS,
         false => ExitCode::FAILURE,

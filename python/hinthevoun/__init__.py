@@ -3,6 +3,7 @@
 The functions are those of include/hinthevoun.h, one for one:
 
     scan, flatten                                   from tags, points, transforms and styles to lines and boxes
+    check                                           whether a list of lines is sound
     sqrt, hypot, cbrt, two_thirds, half,
     sin, cos, atan2, asin, acos                     the mathematics, each answer an f32
 
@@ -18,10 +19,11 @@ refusal is the exception Refusal. The triangle of docs/FLATLIST.md:
     hinthevoun.flatten(*layout, scene, prefixes, boxes, lines)    # 3, and three lines of six words in `lines`
 """
 from .calls import EMPTY_BOX, Layout, empty_boxes, flatten, scan
+from .checking import NotChecked, Verdict, check
 from .errors import NoLibrary, Wrong
 from .maths import acos, asin, atan2, cbrt, cos, half, hypot, sin, sqrt, two_thirds
 from .refusals import Refusal
 
 __version__ = "0.1.0"
-__all__ = ["EMPTY_BOX", "Layout", "NoLibrary", "Refusal", "Wrong", "acos", "asin", "atan2", "cbrt", "cos", "empty_boxes",
-           "flatten", "half", "hypot", "scan", "sin", "sqrt", "two_thirds"]
+__all__ = ["EMPTY_BOX", "Layout", "NoLibrary", "NotChecked", "Refusal", "Verdict", "Wrong", "acos", "asin", "atan2", "cbrt",
+           "check", "cos", "empty_boxes", "flatten", "half", "hypot", "scan", "sin", "sqrt", "two_thirds"]

@@ -1,4 +1,4 @@
-//! The two functions as include/hinthevoun.h declares them. A slice is passed as its pointer and its length, so what
+//! The functions as include/hinthevoun.h declares them. A slice is passed as its pointer and its length, so what
 //! they may touch is what the slice lends, and no two slices overlap where one is written.
 
 use crate::{Layout, PathBox};
@@ -80,5 +80,17 @@ pub fn flatten(
             out.len(),
         )
     };
+    (number, out)
+}
+
+unsafe extern "C" {
+    fn hinth_check(list: *const u32, list_words: usize, out: *mut u64, out_len: usize) -> u32;
+}
+
+/// The refusal's number or 0, and what is wrong and in which record.
+pub fn check(list: &[u32]) -> (u32, [u64; 2]) {
+    let mut out = [0; 2];
+    // SAFETY: as in `scan`.
+    let number = unsafe { hinth_check(list.as_ptr(), list.len(), out.as_mut_ptr(), out.len()) };
     (number, out)
 }

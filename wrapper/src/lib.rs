@@ -21,7 +21,10 @@
 //! assert_eq!(boxes, [PathBox { x0: 0, y0: 0, x1: 3, y1: 6, draw_flags: 0, trans_ix: 0 }]);
 //! ```
 
+mod check;
 mod ffi;
+
+pub use check::{CheckRefusal, Verdict, check};
 
 /// Where in a scene its parts begin, in words, and how many workgroups of 256 tags to take.
 #[derive(Clone, Copy, Debug, PartialEq, Eq)]

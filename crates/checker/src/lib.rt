@@ -1,14 +1,11 @@
 // A check of a list of line records. See specs/Verdict.antt.
 use records::bad_at;
-use records::end_is;
+use records::count_both;
 use records::key_at;
-use records::start_is;
 use records::word_at;
 ghost use mathlib.Core.Path.{_≡_};
-ghost use mathlib.Core.Bool.{not, _&&_};
-ghost use Prim.Native.Nat.{_<_};
 ghost use Rattle.records.specs.Record.{count, badAt};
-ghost use Rattle.checker.specs.Verdict.{evenPoint, unevenAt, Answers, toldOf};
+ghost use Rattle.checker.specs.Verdict.{unevenAt, Answers, toldOf};
 ghost use Rattle.checker.specs.Search.{Stop};
 
 // A record is told by its number, from 0.
@@ -61,28 +58,8 @@ impl Verdict {
     }
 }
 
-// Whether one of two points of the path, by their keys, is out of balance: both are counted in one pass.
-fn uneven(list: &[u32], n: usize, path: u32, x: u32, y: u32, z: u32, w: u32) -> bool
-    requires { ⌜ n ≡ count (now list) ⌝ }
-    ensures { λ r. ⌜ r ≡ not (evenPoint (now (list .entry)) path x y && evenPoint (now (list .entry)) path z w) ⌝ }
-{
-    let mut s0: usize = 0;
-    let mut e0: usize = 0;
-    let mut s1: usize = 0;
-    let mut e1: usize = 0;
-    let mut i: usize = 0;
-    while i < n {
-        s0 += start_is(list, i, path, x, y);
-        e0 += end_is(list, i, path, x, y);
-        s1 += start_is(list, i, path, z, w);
-        e1 += end_is(list, i, path, z, w);
-        i += 1;
-    }
-    !((s0 == e0) & (s1 == e1))
-}
-
-fn uneven_at(list: &[u32], n: usize, k: usize) -> bool
-    requires { ⌜ n ≡ count (now list) ⌝ }
+// Whether the start or the end of record k is out of balance.
+fn uneven_at(list: &[u32], k: usize) -> bool
     ensures { λ r. ⌜ r ≡ unevenAt (now (list .entry)) k ⌝ }
 {
     let path = word_at(list, k, 0);
@@ -90,7 +67,8 @@ fn uneven_at(list: &[u32], n: usize, k: usize) -> bool
     let y = key_at(list, k, 3);
     let z = key_at(list, k, 4);
     let w = key_at(list, k, 5);
-    uneven(list, n, path, x, y, z, w)
+    let c = count_both(list, path, x, y, z, w);
+    !((c.starts0 == c.ends0) & (c.starts1 == c.ends1))
 }
 
 fn first_bad(list: &[u32], n: usize) -> usize
@@ -113,7 +91,7 @@ fn first_uneven(list: &[u32], n: usize) -> usize
 {
     let mut k: usize = 0;
     while k < n {
-        if uneven_at(list, n, k) {
+        if uneven_at(list, k) {
             return k;
         }
         k += 1;

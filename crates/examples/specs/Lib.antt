@@ -1,4 +1,5 @@
 pub mod Table
 pub mod Triangle
+pub mod Passes
 pub mod Corner
 pub mod Moved

@@ -1,6 +1,6 @@
 -- No second number satisfies the contract of a function of the C interface, nor second contents of the lists that it may write. Assumes nothing.
 use Prim.Native.Nat.{ℕ}
-use mathlib.Core.Path.{_≡_, _∙_, sym}
+use mathlib.Core.Path.{_≡_, _∙_, sym, ap}
 use mathlib.Core.List.{List}
 use lib.Ieee.{Float}
 use Rattle.laws.specs.Only.{Only, determined}
@@ -13,6 +13,10 @@ use Rattle.flatten.specs.declared.call.Layout.{Layout}
 use Rattle.flatten.specs.Call.{callOf}
 use Rattle.exports.specs.Call.{reported, reportedOf}
 use Rattle.exports.specs.Scan.{scanned, scannedOf}
+use Rattle.checker.specs.Verdict.{toldOf}
+use Rattle.checker.specs.Only.{check-only}
+use Rattle.checker.specs.declared.Verdict.{Verdict}
+use Rattle.exports.specs.Check.{twoOf, Checked}
 
 pub hinth-flatten-only : (layout : Layout) (scene prefixes : List ℕ) (ps : List PathBox) (ws os : List ℕ)
     → Only (λ (r : ℕ × (List PathBox × (List ℕ × List ℕ))). reported (r .0) (r .1 .0) (r .1 .1 .0) (r .1 .1 .1) ≡ reportedOf (callOf layout scene prefixes ps ws) os)
@@ -51,3 +55,10 @@ hinth-atan2-only y x = determined (atan2Of y x)
 
 pub hinth-half-only : (word : ℕ) → Only (λ (r : Float). r ≡ halfOf word)
 hinth-half-only word = determined (halfOf word)
+
+pub hinth-check-only : (list os : List ℕ) → Only (λ (r : ℕ × List ℕ). Checked list os (r .0) (r .1))
+hinth-check-only list os r s p q =
+    let v = check-only list (p .verdict) (q .verdict) (p .answers) (q .answers) in
+    let number = p .returned ∙ ap (λ (v : Verdict). toldOf v .number) v ∙ sym (q .returned) in
+    let out = p .written ∙ ap (λ (v : Verdict). twoOf (toldOf v .verdict) (toldOf v .«record») os) v ∙ sym (q .written) in
+    λ i. (number i, out i)

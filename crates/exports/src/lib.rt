@@ -1,4 +1,4 @@
-// The C interface: each function is one of `maths`, `scene` or `flatten` under a name that C and Rust
+// The C interface: each function is one of `maths`, `scene`, `flatten` or `checker` under a name that C and Rust
 // can link. See include/hinthevoun.h.
 ghost use mathlib.Core.Path.{_≡_};
 ghost use Rattle.maths.specs.Numbers.{halfOf};
@@ -6,7 +6,9 @@ ghost use Rattle.maths.specs.Roots.{sqrtOf, hypotOf, cbrtOf, twoThirdsOf};
 ghost use Rattle.maths.specs.Trig.{sinOf, cosOf, atan2Of, asinOf, acosOf};
 
 pub mod call;
+pub mod check;
 pub mod scan;
+pub mod sheets;
 
 #[no_mangle]
 pub extern "C" fn hinth_sqrt(x: f32) -> f32

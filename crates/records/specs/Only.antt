@@ -4,7 +4,7 @@ use mathlib.Core.Path.{_≡_}
 use mathlib.Core.Bool.{Bool}
 use mathlib.Core.List.{List}
 use Rattle.laws.specs.Only.{Only, determined}
-use Rattle.records.specs.Record.{word, isBad, badAt, key, once, isPoint}
+use Rattle.records.specs.Record.{word, isBad, badAt, key, once, isPoint, countsOf}
 
 pub is-bad-only : (w : ℕ) → Only (λ r. r ≡ isBad w)
 is-bad-only w = determined (isBad w)
@@ -24,11 +24,8 @@ word-at-only ws k i = determined (word ws k i)
 pub key-at-only : (ws : List ℕ) (k i : ℕ) → Only (λ r. r ≡ key (word ws k i))
 key-at-only ws k i = determined (key (word ws k i))
 
-pub start-is-only : (ws : List ℕ) (k path x y : ℕ) → Only (λ r. r ≡ once (isPoint path x y (word ws k 0) (word ws k 2) (word ws k 3)))
-start-is-only ws k path x y = determined (once (isPoint path x y (word ws k 0) (word ws k 2) (word ws k 3)))
-
-pub end-is-only : (ws : List ℕ) (k path x y : ℕ) → Only (λ r. r ≡ once (isPoint path x y (word ws k 0) (word ws k 4) (word ws k 5)))
-end-is-only ws k path x y = determined (once (isPoint path x y (word ws k 0) (word ws k 4) (word ws k 5)))
-
 pub bad-at-only : (ws : List ℕ) (k : ℕ) → Only (λ r. r ≡ badAt ws k)
 bad-at-only ws k = determined (badAt ws k)
+
+pub count-both-only : (ws : List ℕ) (path x y z w : ℕ) → Only (λ r. r ≡ countsOf ws path x y z w)
+count-both-only ws path x y z w = determined (countsOf ws path x y z w)

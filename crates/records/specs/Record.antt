@@ -6,6 +6,7 @@ use lib.Dec.{eqb}
 use lib.ListN.{length, getD}
 use lib.Ieee.{binary32, ofBits}
 use lib.Ieee.Scale.{finite}
+use Rattle.records.specs.declared.Counts.{Counts}
 
 -- ---- the form of a record
 
@@ -53,10 +54,14 @@ unfoldable pub once : Bool → ℕ
 once true = 1
 once false = 0
 
--- of how many of the first n records it holds that `is` is true of the path and of the two words at place `at`: the start is at place 2, the end at place 4
+-- 1 where `is` is true of the path of record k and of the two words at its place `at`, else 0: the start is at place 2, the end at place 4
+abbrev pub hitAt : (ℕ → ℕ → ℕ → Bool) → ℕ → List ℕ → ℕ → ℕ
+hitAt is at ws k = once (is (word ws k 0) (word ws k at) (word ws k (at + 1)))
+
+-- of how many of the first n records that holds
 unfoldable pub tallyOf : (ℕ → ℕ → ℕ → Bool) → ℕ → List ℕ → ℕ → ℕ
 tallyOf is at ws zero = 0
-tallyOf is at ws (suc n) = tallyOf is at ws n + once (is (word ws n 0) (word ws n at) (word ws n (at + 1)))
+tallyOf is at ws (suc n) = tallyOf is at ws n + hitAt is at ws n
 
 -- how often the point of keys x and y is a start, and how often an end, among the records of a path
 abbrev pub starts : List ℕ → ℕ → ℕ → ℕ → ℕ
@@ -64,3 +69,8 @@ starts ws path x y = tallyOf (isPoint path x y) 2 ws (count ws)
 
 abbrev pub ends : List ℕ → ℕ → ℕ → ℕ → ℕ
 ends ws path x y = tallyOf (isPoint path x y) 4 ws (count ws)
+
+-- the same of two points at once
+abbrev pub countsOf : List ℕ → ℕ → ℕ → ℕ → ℕ → ℕ → Counts
+countsOf ws path x y z w =
+    record { starts0 = starts ws path x y; ends0 = ends ws path x y; starts1 = starts ws path z w; ends1 = ends ws path z w }

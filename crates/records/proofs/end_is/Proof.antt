@@ -4,7 +4,7 @@ use Rattle.records.proofs.end_is.Statement.{statement}
 use Rattle.records.proofs.end_is.Tie as tie
 
 returns : tie.Need-returns
-returns c = rw (c .one .ensures, c .before .is-point .ensures, c .before .before .word-at3 .ensures, c .before .before .before .word-at2 .ensures, c .before .before .before .before .word-at .ensures)
+returns c = rw (c .one .ensures, c .before .is-point .ensures, c .before .before .word-in3 .ensures, c .before .before .before .word-in2 .ensures, c .before .before .before .before .word-in .ensures)
 
 pub end-is-spec : {M : Type 1} → statement M
 end-is-spec =
