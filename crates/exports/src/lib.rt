@@ -7,8 +7,8 @@ ghost use Rattle.maths.specs.Trig.{sinOf, cosOf, atan2Of, asinOf, acosOf};
 
 pub mod call;
 pub mod check;
+pub mod convert;
 pub mod scan;
-pub mod sheets;
 
 #[no_mangle]
 pub extern "C" fn hinth_sqrt(x: f32) -> f32

@@ -3,7 +3,7 @@ ghost use mathlib.Core.Path.{_≡_};
 ghost use lib.ListN.{length};
 ghost use Rattle.sheets.specs.Moving.{toF32, toI16};
 ghost use Rattle.sheets.specs.Written.{stored};
-ghost use Rattle.exports.specs.Sheets.{threeOf, moved, movedOf};
+ghost use Rattle.exports.specs.Convert.{threeOf, moved, movedOf};
 use sheets::sheet::to_f32;
 use sheets::sheet::to_i16;
 
