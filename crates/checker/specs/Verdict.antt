@@ -5,7 +5,7 @@ use mathlib.Core.Bool.{Bool, true, false, not, _&&_}
 use mathlib.Core.List.{List}
 use lib.Dec.{eqb}
 use lib.ListN.{length}
-use Rattle.records.specs.Record.{count, word, key, badAt, starts, ends}
+use Rattle.records.specs.Record.{count, word, pathOf, key, badAt, starts, ends}
 use Rattle.checker.specs.declared.Told.{Told}
 use Rattle.checker.specs.declared.Verdict.{Verdict}
 use Rattle.checker.specs.declared.Verdict.the-variants.{Sound, BadNumber, Unbalanced, TooMany, Leftover}
@@ -36,7 +36,7 @@ keyAt ws k i = key (word ws k i)
 
 -- whether the start or the end of record k is out of balance in its path
 unfoldable pub unevenAt : List ℕ → ℕ → Bool
-unevenAt ws k = not (evenPoint ws (word ws k 0) (keyAt ws k 2) (keyAt ws k 3) && evenPoint ws (word ws k 0) (keyAt ws k 4) (keyAt ws k 5))
+unevenAt ws k = not (evenPoint ws (pathOf ws k) (keyAt ws k 2) (keyAt ws k 3) && evenPoint ws (pathOf ws k) (keyAt ws k 4) (keyAt ws k 5))
 
 -- of n records, k is the first of which f holds
 pub record First (f : ℕ → Bool) (n k : ℕ) : Type 0 where

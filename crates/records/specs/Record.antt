@@ -56,7 +56,7 @@ once false = 0
 
 -- 1 where `is` is true of the path of record k and of the two words at its place `at`, else 0: the start is at place 2, the end at place 4
 abbrev pub hitAt : (ℕ → ℕ → ℕ → Bool) → ℕ → List ℕ → ℕ → ℕ
-hitAt is at ws k = once (is (word ws k 0) (word ws k at) (word ws k (at + 1)))
+hitAt is at ws k = once (is (pathOf ws k) (word ws k at) (word ws k (at + 1)))
 
 -- of how many of the first n records that holds
 unfoldable pub tallyOf : (ℕ → ℕ → ℕ → Bool) → ℕ → List ℕ → ℕ → ℕ

@@ -1,10 +1,10 @@
--- How often a device point, by its bits, is the start of a line and how often an end: among lines, and among their records. Definitions only.
+-- How often a device point, by its bits, is the start of a line and how often an end. Definitions only.
 use Prim.Native.Nat.{ℕ, _+_}
 use mathlib.Core.Bool.{Bool, _&&_}
 use mathlib.Core.List.{List, [], _∷_}
 use lib.Dec.{eqb}
 use lib.Ieee.{binary32, toBits}
-use Rattle.records.specs.Record.{once, tallyOf}
+use Rattle.records.specs.Record.{once}
 use Rattle.spiral.specs.declared.util.Vec2.{Vec2}
 use Rattle.drawing.specs.Sheet.{Event, line, noCount, noJoin}
 
@@ -39,7 +39,3 @@ starts x y = startsBy (isAt x y)
 
 abbrev pub ends : ℕ → ℕ → List Event → ℕ
 ends x y = endsBy (isAt x y)
-
--- how often the words x and y stand side by side at the place `at` of the first n records: a line's start stands at place 2, its end at place 4
-abbrev pub among : ℕ → ℕ → ℕ → ℕ → List ℕ → ℕ
-among at x y n ws = tallyOf (bitsAre x y) at ws n

@@ -153,6 +153,6 @@ unfoldable pub storedBy : Call → (ℕ → ℕ → ℕ → Bool) → ℕ → Li
 storedBy c is at [] = 0
 storedBy c is at (i ∷ js) = tallyOf is at (recordsFrom c i) (length (drawnAt c i)) + storedBy c is at js
 
--- how often the words x and y stand at a place of the records of these tags
+-- how often the words x and y stand side by side at a place of the records of these tags: a line's start stands at place 2, its end at place 4
 abbrev pub stored : Call → ℕ → ℕ → ℕ → List ℕ → ℕ
 stored c at x y = storedBy c (bitsAre x y) at
