@@ -49,7 +49,7 @@ pub extern "C" fn hinth_to_i16(
         (stored (toI16 (now (tags .entry)) (now (points .entry)) (length (now («old_tags» .entry))) (length (now («old_points» .entry)))) (now («old_tags» .entry)) (now («old_points» .entry)))
         (now (out .entry)) ⌝ }
 {
-    let told = to_i16(tags, points, old_tags, old_points).told();
-    put_three(out, told.tags, told.words, told.at);
-    told.number
+    let back = to_i16(tags, points, old_tags, old_points).told();
+    put_three(out, back.tags, back.words, back.at);
+    back.number
 }
