@@ -59,7 +59,7 @@ unfoldable pub cornerStyle : ℕ → Style
 cornerStyle w = record { flags = 0x80000000; width = w }
 
 -- the two widths
-abbrev two : ℕ
+abbrev pub two : ℕ
 two = 0x40000000
 
 abbrev narrow : ℕ
@@ -143,8 +143,8 @@ corner-stroke w h =
     }
 
 -- ---- a width of 2: the theorem holds of it
-accepted : Accepted (corner two)
-accepted = record { u32 = u; count = 8; answer = computed .two-lines }
+pub corner-accepted : Accepted (corner two)
+corner-accepted = record { u32 = u; count = 8; answer = computed .two-lines }
   where
     u : corner two .layout .«n_wg» < 2 ^ 32
     u = unfold corner in lit< tt
@@ -152,7 +152,7 @@ accepted = record { u32 = u; count = 8; answer = computed .two-lines }
 pub corner-watertight : (x y : ℕ) → starts x y (watertight.linesOf (corner two) (run 2 3)) ≡ ends x y (watertight.linesOf (corner two) (run 2 3))
 unfolding corner-stroke
 corner-watertight =
-    strokes-watertight (corner two) accepted 2 2 (corner-stroke two (computed .two-wide)) (λ e. one (λ k. plusCoincides (corner two) (cornerStyle two) k ≡ minusCoincides (corner two) (cornerStyle two) k) (computed .two-sides))
+    strokes-watertight (corner two) corner-accepted 2 2 (corner-stroke two (computed .two-wide)) (λ e. one (λ k. plusCoincides (corner two) (cornerStyle two) k ≡ minusCoincides (corner two) (cornerStyle two) k) (computed .two-sides))
 
 -- ---- a width of 2 ^ -23: every condition but the last, and the lines do not balance
 pub gap-accepted : Accepted (corner narrow)

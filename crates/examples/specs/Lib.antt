@@ -2,3 +2,4 @@ pub mod Table
 pub mod Triangle
 pub mod Passes
 pub mod Corner
+pub mod Moved

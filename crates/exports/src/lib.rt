@@ -7,6 +7,7 @@ ghost use Rattle.maths.specs.Trig.{sinOf, cosOf, atan2Of, asinOf, acosOf};
 
 pub mod call;
 pub mod check;
+pub mod convert;
 pub mod scan;
 
 #[no_mangle]

@@ -1,6 +1,6 @@
 -- Where reads in a row were found, each of them was, and with what: the reads of a tag's head, and of what it draws. Assumes nothing.
 use Prim.Native.Nat.{ℕ, _+_, _*_, _%_, _^_}
-use mathlib.Core.Path.{_≡_, refl, ap, _∙_}
+use mathlib.Core.Path.{_≡_, refl, ap, _∙_, subst}
 use mathlib.Core.Bool.{Bool, true, false, _&&_, cond}
 use mathlib.Core.List.{List, [], _∷_}
 use native.Mathlib.Omega.{arith}
@@ -38,21 +38,40 @@ only-where : {A : Type 0} (t : Bool) (a b : A) (r : Read A) → ((x : A) → r �
 only-where true a b r n h = (refl, cc)
 only-where false a b r n h = absurd (n b h)
 
--- ---- the tag that a head was read for
-boxed-is : (n : ℕ) (k h : Head) → boxed n k ≡ found h → k ≡ h
-unfolding boxed
-boxed-is n k h = go (isPath k && leb n (k .tag .monoid .«path_ix»))
-  where
-    go : (b : Bool) → cond b (refused NoBox) (found k) ≡ found h → k ≡ h
-    go true e = let z : _≡_ {A = ℕ} 0 1 = cc in absurd (omega arith)
-    go false e = cc
+-- a value that was found is given on
+pub given-on : {A B : Type 0} (r : Read A) (f : A → Read B) (a : A) → r ≡ found a → (r >>= f) ≡ f a
+unfolding _>>=_
+given-on {A = A} r f a e = ap (λ (x : Read A). x >>= f) e
 
-pub head-tag : (layout : Layout) (scene prefixes : List ℕ) (n ix : ℕ) (h : Head) → headAt layout scene prefixes n ix ≡ found h → tagAt layout scene prefixes ix ≡ found (h .tag)
-unfolding headAt
-head-tag layout scene prefixes n ix h e =
-    let a = came (tagAt layout scene prefixes ix) (λ t. flagsOf scene (layout .«style_base») (t .monoid .«style_ix») >>= λ flags. boxed n (record { tag = t; flags = flags })) h e in
-    let b = came (flagsOf scene (layout .«style_base») (a .value .monoid .«style_ix»)) (λ flags. boxed n (record { tag = a .value; flags = flags })) h (a .then) in
-    a .first ∙ ap (λ (k : Head). found (k .tag)) (boxed-is n (record { tag = a .value; flags = b .value }) h (b .then))
+-- ---- a head
+
+-- its tag was read, the flags of its style, and a path tag has its box
+pub record HeadParts (layout : Layout) (scene prefixes : List ℕ) (n ix : ℕ) (h : Head) : Type 0 where
+  pub tag : tagAt layout scene prefixes ix ≡ found (h .tag)
+  pub flags : flagsOf scene (layout .«style_base») (h .tag .monoid .«style_ix») ≡ found (h .flags)
+  pub box : isPath h && leb n (h .tag .monoid .«path_ix») ≡ false
+
+boxed-says : (n : ℕ) (k h : Head) → boxed n k ≡ found h → (k ≡ h) × (isPath k && leb n (k .tag .monoid .«path_ix») ≡ false)
+unfolding boxed
+boxed-says n k h = go (isPath k && leb n (k .tag .monoid .«path_ix»))
+  where
+    go : (b : Bool) → cond b (refused NoBox) (found k) ≡ found h → (k ≡ h) × (b ≡ false)
+    go true e = let z : _≡_ {A = ℕ} 0 1 = cc in absurd (omega arith)
+    go false e = (cc, refl)
+
+module _ (layout : Layout) (scene prefixes : List ℕ) (n ix : ℕ) (h : Head) where
+  pub head-parts : headAt layout scene prefixes n ix ≡ found h → HeadParts layout scene prefixes n ix h
+  unfolding headAt
+  head-parts e =
+      let a = came (tagAt layout scene prefixes ix) (λ t. flagsOf scene (layout .«style_base») (t .monoid .«style_ix») >>= λ flags. boxed n (record { tag = t; flags = flags })) h e in
+      let b = came (flagsOf scene (layout .«style_base») (a .value .monoid .«style_ix»)) (λ flags. boxed n (record { tag = a .value; flags = flags })) h (a .then) in
+      let k = boxed-says n (record { tag = a .value; flags = b .value }) h (b .then) in
+      subst (HeadParts layout scene prefixes n ix) (k .0) (record { tag = a .first; flags = b .first; box = k .1 })
+
+  -- and where they were, the head is
+  pub head-whole : HeadParts layout scene prefixes n ix h → headAt layout scene prefixes n ix ≡ found h
+  unfolding headAt boxed _>>=_
+  head-whole p = rw (p .tag, p .flags, p .box)
 
 -- ---- what is inside, where it was found
 transform-found : (scene : List ℕ) (base ix : ℕ) (z : List Float) → inside (transformOf scene base ix .found) (transformOf scene base ix .z) ≡ found z → floatsAt scene (base + ix * 6) ≡ z

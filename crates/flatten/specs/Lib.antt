@@ -11,3 +11,4 @@ pub mod SetAside
 pub mod WhoseLaws
 pub mod BadTransform
 pub mod Found
+pub mod SameEvents

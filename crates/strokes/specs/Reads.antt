@@ -22,7 +22,7 @@ use Rattle.scene.specs.Reading.{wide, marker, lineCubic, quadCubic, origin, rai
 use Rattle.scene.specs.declared.tags.PathTagData.{PathTagData}
 use Rattle.refusals.specs.Refusals.{found}
 use Rattle.flatten.specs.Tag.{_>>=_, tagAt, pointsAt, neighborAt, strokeBy, strokeAt, shapeAt, eventsAt, isStroke}
-use Rattle.flatten.specs.Found.{came, parts, points-found, head-tag}
+use Rattle.flatten.specs.Found.{came, parts, points-found, head-parts}
 use Rattle.flatten.specs.declared.call.Layout.{Layout}
 use Rattle.flatten.specs.declared.tag.Head.{Head}
 use Rattle.watertight.specs.Fill.{Call, tags, headOf, typeOf, pointOf, drawnAt}
@@ -101,7 +101,7 @@ module _ (c : Call) (s : Style) (z : List ℕ) (k : ℕ) (st : Stroked c s z k) 
       let sum : k + 1 ≡ suc k = omega arith in
       let ix : (k + 1) % 2 ^ 64 ≡ suc k = mod-eq-of-lt (omega arith) ∙ sum in
       let tag : tagAt (c .layout) (c .scene) (c .prefixes) ((k + 1) % 2 ^ 64) ≡ found (headOf c (suc k) .tag) =
-      ap (tagAt (c .layout) (c .scene) (c .prefixes)) ix ∙ head-tag (c .layout) (c .scene) (c .prefixes) (length (c .boxes)) (suc k) (headOf c (suc k)) (behind .head) in
+      ap (tagAt (c .layout) (c .scene) (c .prefixes)) ix ∙ head-parts (c .layout) (c .scene) (c .prefixes) (length (c .boxes)) (suc k) (headOf c (suc k)) (behind .head) .tag in
       carry (s .flags) (floatsAt z 0) _ (st .flags) its-transform
       (goes-events (c .layout) (c .scene) (c .prefixes) k (headOf c k) (s .width) (drawnAt c k) (st .segment) is-stroke (st .width) (sound .events) (headOf c (suc k) .tag) end tag)
 

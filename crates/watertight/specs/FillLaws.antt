@@ -5,12 +5,10 @@ use mathlib.Core.Bool.{Bool, true, false}
 use mathlib.Core.List.{List, [], _∷_}
 use native.Mathlib.Omega.{arith}
 use native.Mathlib.Nat.{mod-lt}
-use lib.Dec.{T, eqb, ltb, lit<}
+use lib.Dec.{eqb, lit<}
 use lib.ListN.{length, getD, take, drop}
 use lib.Seq.{getD-take, getD-drop}
-use lib.Ieee.{Float, binary32, fits, round, eq}
-use lib.Ieee.Bits.{ofBits-fits}
-use lib.Ieee.Fits.{cond-fits, ofInt-fits, neg-fits}
+use lib.Ieee.{Float, round, eq}
 use Rattle.laws.specs.Binary32.{whole}
 use Rattle.spiral.specs.Points.{FitsPoint}
 use Rattle.spiral.specs.declared.util.Vec2.{Vec2}
@@ -19,7 +17,8 @@ use Rattle.drawing.specs.Cubic.{point}
 use Rattle.curve.specs.Chain.{Chain, written, fill-chain}
 use Rattle.curve.specs.Bounds.{lines-at-most}
 use Rattle.segment.specs.Segment.{fillEvents, shapeEvents}
-use Rattle.scene.specs.Reading.{f32Point, i16Of, i16Point, wide, pointWords, pointAt, lineCubic, quadCubic, raised, cubicOf, floatsAt}
+use Rattle.scene.specs.Reading.{wide, pointWords, pointAt, lineCubic, quadCubic, raised, cubicOf, floatsAt}
+use Rattle.scene.specs.Points.{point-fits}
 use Rattle.segment.specs.declared.Shape.{Shape}
 use Rattle.segment.specs.declared.Shape.the-variants.{Fill}
 use Rattle.refusals.specs.Refusals.{found}
@@ -28,16 +27,6 @@ use Rattle.flatten.specs.Found.{parts}
 use Rattle.flatten.specs.declared.call.Layout.{Layout}
 use Rattle.flatten.specs.declared.tag.Head.{Head}
 use Rattle.watertight.specs.Fill.{Call, readEvents, headOf, typeOf, pointOf, firstOf, lastOf, transformWords, writtenBy}
-
--- ---- the points are numbers of binary32
-i16-fits : (h : ℕ) → T (fits binary32 (i16Of h))
-unfolding i16Of
-i16-fits h = cond-fits binary32 (ltb h 0x8000) _ _ (ofInt-fits binary32 _) (neg-fits binary32 _ (ofInt-fits binary32 _))
-
-point-fits : (w : Bool) (ws : List ℕ) (at : ℕ) → FitsPoint (pointAt w ws at)
-unfolding pointAt f32Point i16Point
-point-fits true ws at = (ofBits-fits binary32 _, ofBits-fits binary32 _)
-point-fits false ws at = (i16-fits _, i16-fits _)
 
 -- ---- the cubic of a segment starts at its first point and ends at its last
 ends-of : (k : ℕ) (p : ℕ → Vec2) → eqb k 0 ≡ false → k < 4 → (point (raised k false p) 0 ≡ p 0) × (point (raised k false p) 3 ≡ p k)
