@@ -11,6 +11,7 @@ mod interface;
 mod random;
 mod report;
 mod roots;
+mod sheets;
 mod sweep;
 mod trig;
 
@@ -62,6 +63,7 @@ fn checks(extent: Extent, only: &str) -> ExitCode {
     trig::run(&mut report, extent);
     angles::run(&mut report, extent);
     checker::run(&mut report, extent);
+    sheets::run(&mut report, extent);
     cuts::run(&mut report, extent);
     match report.close() {
         true => ExitCode::SUCCESS,

@@ -4,6 +4,7 @@ The functions are those of include/hinthevoun.h, one for one:
 
     scan, flatten                                   from tags, points, transforms and styles to lines and boxes
     check                                           whether a list of lines is sound
+    to_f32, to_i16                                  tags and points of an old sheet moved to f32 points, and back
     cut, read_cut                                   a path's lines as HP-GL, and such a file back as lines
     sqrt, hypot, cbrt, two_thirds, half,
     sin, cos, atan2, asin, acos                     the mathematics, each answer an f32
@@ -24,9 +25,10 @@ from .checking import NotChecked, Verdict, check
 from .cutting import NotCut, cut, read_cut
 from .errors import NoLibrary, Wrong
 from .maths import acos, asin, atan2, cbrt, cos, half, hypot, sin, sqrt, two_thirds
+from .moving import Moved, NotMoved, to_f32, to_i16
 from .refusals import Refusal
 
 __version__ = "0.1.0"
-__all__ = ["EMPTY_BOX", "Layout", "NoLibrary", "NotChecked", "NotCut", "Refusal", "Verdict", "Wrong", "acos", "asin",
-           "atan2", "cbrt", "check", "cos", "cut", "empty_boxes", "flatten", "half", "hypot", "read_cut", "scan",
-           "sin", "sqrt", "two_thirds"]
+__all__ = ["EMPTY_BOX", "Layout", "Moved", "NoLibrary", "NotChecked", "NotCut", "NotMoved", "Refusal", "Verdict",
+           "Wrong", "acos", "asin", "atan2", "cbrt", "check", "cos", "cut", "empty_boxes", "flatten", "half", "hypot",
+           "read_cut", "scan", "sin", "sqrt", "to_f32", "to_i16", "two_thirds"]

@@ -1,5 +1,6 @@
 pub mod Call
 pub mod Scan
+pub mod Convert
 pub mod Check
 pub mod Only
 pub mod Cut

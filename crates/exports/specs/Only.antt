@@ -2,6 +2,7 @@
 use Prim.Native.Nat.{ℕ}
 use mathlib.Core.Path.{_≡_, _∙_, sym, ap}
 use mathlib.Core.List.{List}
+use lib.ListN.{length}
 use lib.IntN.{ℤ}
 use lib.Ieee.{Float}
 use Rattle.laws.specs.Only.{Only, determined}
@@ -21,6 +22,9 @@ use Rattle.checker.specs.Verdict.{toldOf}
 use Rattle.checker.specs.Only.{check-only}
 use Rattle.checker.specs.declared.Verdict.{Verdict}
 use Rattle.exports.specs.Check.{twoOf, Checked}
+use Rattle.sheets.specs.Moving.{toF32, toI16}
+use Rattle.sheets.specs.Written.{stored}
+use Rattle.exports.specs.Convert.{moved, movedOf}
 
 pub hinth-flatten-only : (layout : Layout) (scene prefixes : List ℕ) (ps : List PathBox) (ws os : List ℕ)
     → Only (λ (r : ℕ × (List PathBox × (List ℕ × List ℕ))). reported (r .0) (r .1 .0) (r .1 .1 .0) (r .1 .1 .1) ≡ reportedOf (callOf layout scene prefixes ps ws) os)
@@ -66,6 +70,14 @@ hinth-check-only list os r s p q =
     let number = p .returned ∙ ap (λ (v : Verdict). toldOf v .number) v ∙ sym (q .returned) in
     let out = p .written ∙ ap (λ (v : Verdict). twoOf (toldOf v .verdict) (toldOf v .«record») os) v ∙ sym (q .written) in
     λ i. (number i, out i)
+
+pub hinth-to-f32-only : (tags points ts ws os : List ℕ)
+    → Only (λ (r : ℕ × (List ℕ × (List ℕ × List ℕ))). moved (r .0) (r .1 .0) (r .1 .1 .0) (r .1 .1 .1) ≡ movedOf (stored (toF32 tags points (length ts) (length ws)) ts ws) os)
+hinth-to-f32-only tags points ts ws os r s p q = let e = p ∙ sym q in λ i. (e i .number, (e i .tags, (e i .points, e i .out)))
+
+pub hinth-to-i16-only : (tags points ts ws os : List ℕ)
+    → Only (λ (r : ℕ × (List ℕ × (List ℕ × List ℕ))). moved (r .0) (r .1 .0) (r .1 .1 .0) (r .1 .1 .1) ≡ movedOf (stored (toI16 tags points (length ts) (length ws)) ts ws) os)
+hinth-to-i16-only tags points ts ws os r s p q = let e = p ∙ sym q in λ i. (e i .number, (e i .tags, (e i .points, e i .out)))
 
 pub hinth-cut-only : (path : ℕ) (ws bs os : List ℕ)
     → Only (λ (r : ℕ × (List ℕ × List ℕ)). written (r .0) (r .1 .0) (r .1 .1) ≡ writtenOf (cutOf path ws bs) os)

@@ -1,6 +1,9 @@
 pub mod Words
 pub mod Tags
 pub mod Reading
+pub mod Fresh
+pub mod FreshLaws
 pub mod Early
+pub mod Points
 pub mod Only
 pub mod Examples
