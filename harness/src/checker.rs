@@ -249,7 +249,8 @@ impl Scene {
     }
 }
 
-fn fills(random: &mut Random) -> Option<Vec<Record>> {
+/// The lines that the library draws for some closed fills.
+pub fn fills(random: &mut Random) -> Option<Vec<Record>> {
     let mut scene = Scene { tags: vec![0x20, 0x40], data: Vec::new() };
     let paths = 1 + random.below(4) as usize;
     for _ in 0..paths {

@@ -3,6 +3,7 @@
 mod angles;
 mod bench;
 mod checker;
+mod cuts;
 mod exact;
 mod ffi;
 mod half;
@@ -43,6 +44,7 @@ fn main() -> ExitCode {
         ["bench"] => {
             bench::run();
             checker::bench();
+            cuts::bench();
             ExitCode::SUCCESS
         }
         _ => {
@@ -62,6 +64,7 @@ fn checks(extent: Extent, only: &str) -> ExitCode {
     angles::run(&mut report, extent);
     checker::run(&mut report, extent);
     sheets::run(&mut report, extent);
+    cuts::run(&mut report, extent);
     match report.close() {
         true => ExitCode::SUCCESS,
         false => ExitCode::FAILURE,

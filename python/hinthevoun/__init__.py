@@ -5,6 +5,7 @@ The functions are those of include/hinthevoun.h, one for one:
     scan, flatten                                   from tags, points, transforms and styles to lines and boxes
     check                                           whether a list of lines is sound
     to_f32, to_i16                                  tags and points of an old sheet moved to f32 points, and back
+    cut, read_cut                                   a path's lines as HP-GL, and such a file back as lines
     sqrt, hypot, cbrt, two_thirds, half,
     sin, cos, atan2, asin, acos                     the mathematics, each answer an f32
 
@@ -21,12 +22,13 @@ refusal is the exception Refusal. The triangle of docs/FLATLIST.md:
 """
 from .calls import EMPTY_BOX, Layout, empty_boxes, flatten, scan
 from .checking import NotChecked, Verdict, check
+from .cutting import NotCut, cut, read_cut
 from .errors import NoLibrary, Wrong
 from .maths import acos, asin, atan2, cbrt, cos, half, hypot, sin, sqrt, two_thirds
 from .moving import Moved, NotMoved, to_f32, to_i16
 from .refusals import Refusal
 
 __version__ = "0.1.0"
-__all__ = ["EMPTY_BOX", "Layout", "Moved", "NoLibrary", "NotChecked", "NotMoved", "Refusal", "Verdict", "Wrong", "acos", "asin",
-           "atan2", "cbrt", "check", "cos", "empty_boxes", "flatten", "half", "hypot", "scan", "sin", "sqrt", "to_f32",
-           "to_i16", "two_thirds"]
+__all__ = ["EMPTY_BOX", "Layout", "Moved", "NoLibrary", "NotChecked", "NotCut", "NotMoved", "Refusal", "Verdict",
+           "Wrong", "acos", "asin", "atan2", "cbrt", "check", "cos", "cut", "empty_boxes", "flatten", "half", "hypot",
+           "read_cut", "scan", "sin", "sqrt", "to_f32", "to_i16", "two_thirds"]

@@ -94,6 +94,6 @@ def _read(name: str, words: Any, width: int) -> memoryview:
     try:
         view = memoryview(words)
     except TypeError:
-        return memoryview(array({4: "I", 8: "Q"}[width], words))
+        return memoryview(array({1: "B", 4: "I", 8: "Q"}[width], words))
     view = _view_of(name, view, width)
     return view if _is_aligned(view, width) else memoryview(view.tobytes())

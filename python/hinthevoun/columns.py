@@ -64,6 +64,20 @@ def lines_of_words(words: Union["array[int]", memoryview]) -> Lines:
     return Lines(singles[0::6], singles[1::6], pairs[1::3], pairs[2::3])
 
 
+def lines_of_numbers(numbers: "array[int]") -> Lines:
+    """The columns of lines of four whole numbers that an f32 holds, of path 0 and no tag."""
+    pairs = column_of("Q", struct.pack(f">{len(numbers)}f", *numbers))
+    zeros = array("I", bytes(4 * (len(pairs) // 2)))
+    return Lines(zeros, zeros[:], pairs[0::2], pairs[1::2])
+
+
+def moves_between(lines: Lines) -> Lines:
+    """From where a line ends to where the next one starts, if that is elsewhere."""
+    ends, starts = lines.ends[:-1], lines.starts[1:]
+    apart = [i for i, (end, start) in enumerate(zip(ends, starts)) if end != start]
+    return Lines(lines.paths[:-1], lines.tags[:-1], ends, starts).at(apart)
+
+
 def places_of(points: "array[int]") -> Tuple[array, array]:
     """The x of each point, and the y."""
     ordered = array("Q", points)

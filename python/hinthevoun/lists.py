@@ -11,7 +11,8 @@ from array import array
 from typing import Callable, Iterable, List, NamedTuple, Tuple, Union
 
 from .calls import EMPTY_BOX, WORDS_OF_A_LINE
-from .columns import Lines, lines_of_words
+from .columns import Lines, lines_of_numbers, lines_of_words, moves_between, no_lines
+from .cutting import NotCut, lines_of_hpgl
 from .errors import Wrong
 from .flattening import Answer
 from .refusals import REASONS, Refusal
@@ -39,12 +40,14 @@ class Parts(NamedTuple):
 
 
 class Listing(NamedTuple):
-    """A list as it is drawn. The refusal is empty where the call was accepted; a box is its six numbers."""
+    """A list as it is drawn. The refusal is empty where the call was accepted; a box is its six numbers; the moves are
+    those of a knife with the pen up."""
 
     name: str
     refusal: str
     lines: Lines
     boxes: Boxes
+    moves: Lines = no_lines()
 
 
 # ---- writing
@@ -98,7 +101,7 @@ def listing_of(name: str, data: bytes) -> Listing:
     """The list that a file's bytes are."""
     if data.startswith(MAGIC):
         return packed_listing(name, data)
-    return text_listing(name, data)
+    return cut_listing(name, data) if data.startswith(b"IN") else text_listing(name, data)
 
 
 def wrong_at(name: str, number: int, why: str) -> Wrong:
@@ -110,6 +113,15 @@ def packed_listing(name: str, data: bytes) -> Listing:
     refusal, words, boxes = packed_parts(name, data)
     check_records(words, lambda row, why: Wrong(f"{name}: record {row + 1:,}: {why}"))
     return Listing(name, refusal, lines_of_words(words), boxes)
+
+
+def cut_listing(name: str, data: bytes) -> Listing:
+    """A file for the knife table, as it is drawn: its lines are those of one path, which it does not name."""
+    try:
+        lines = lines_of_numbers(lines_of_hpgl(data))
+    except NotCut as why:
+        raise Wrong(f"{name}: {why}; the file was cut short or changed: cut the list again") from None
+    return Listing(name, "", lines, [], moves_between(lines))
 
 
 def packed_parts(name: str, data: bytes) -> Parts:

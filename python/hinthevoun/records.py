@@ -29,11 +29,11 @@ class Records(NamedTuple):
         return list(zip(*[iter(self.words)] * WORDS_OF_A_LINE))
 
 
-def read_records(argument: str) -> Records:
-    """The list that an argument names, in the form that its first bytes show."""
+def read_records(argument: str, done: str = "checked") -> Records:
+    """The list that an argument names, in the form that its first bytes show; `done` is what is to be done with it."""
     name = name_of(argument)
     with source(argument) as stream:
-        limited = Limited(name, stream, "checked")
+        limited = Limited(name, stream, done)
         data = limited.rest(limited.read(CHUNK))
     if not data:
         raise Wrong(f"{name}: empty; a list without lines is the one row 'lines 0', so something was lost: ask for it again")
@@ -54,7 +54,7 @@ def text_records(name: str, data: bytes) -> Records:
     """Rows of six words, or a whole answer of flatlist."""
     check_ends(name, data)
     if FIRST_WORD.match(data):
-        raise Wrong(f"{name}: a sheet and not a list; `hinth flatten` makes its list, which `hinth check -` takes")
+        raise Wrong(f"{name}: a sheet and not a list; `hinth flatten` makes its list, which this command takes from standard input")
     if RECORD_ROW.match(data):
         return Records(name, "", words_of_rows(name, data), 1)
     refusal, words, _ = text_parts(name, data)

@@ -164,3 +164,43 @@ pub fn to_f32(tags: &[u8], points: &[u32], to_tags: &mut [u8], to_points: &mut [
 pub fn to_i16(tags: &[u8], points: &[u32], to_tags: &mut [u8], to_points: &mut [u32]) -> (u32, [u64; 3]) {
     moved(hinth_to_i16, tags, points, to_tags, to_points)
 }
+
+unsafe extern "C" {
+    fn hinth_cut(
+        list: *const u32,
+        list_words: usize,
+        path: u32,
+        bytes: *mut u8,
+        n_bytes: usize,
+        out: *mut u64,
+        out_len: usize,
+    ) -> u32;
+    fn hinth_read_cut(
+        file: *const u8,
+        n_bytes: usize,
+        lines: *mut i32,
+        n_numbers: usize,
+        out: *mut u64,
+        out_len: usize,
+    ) -> u32;
+}
+
+/// The refusal's number or 0, and the bytes that stand and the record.
+pub fn cut(list: &[u32], path: u32, bytes: &mut [u8]) -> (u32, [u64; 2]) {
+    let mut out = [0; 2];
+    // SAFETY: as in `scan`.
+    let number = unsafe {
+        hinth_cut(list.as_ptr(), list.len(), path, bytes.as_mut_ptr(), bytes.len(), out.as_mut_ptr(), out.len())
+    };
+    (number, out)
+}
+
+/// The refusal's number or 0, and the lines that stand and the position.
+pub fn read_cut(file: &[u8], lines: &mut [i32]) -> (u32, [u64; 2]) {
+    let mut out = [0; 2];
+    // SAFETY: as in `scan`.
+    let number = unsafe {
+        hinth_read_cut(file.as_ptr(), file.len(), lines.as_mut_ptr(), lines.len(), out.as_mut_ptr(), out.len())
+    };
+    (number, out)
+}

@@ -3,3 +3,4 @@ pub mod Triangle
 pub mod Passes
 pub mod Corner
 pub mod Moved
+pub mod ItsCut

@@ -67,7 +67,7 @@ its-finite : Finite (listOf its-call its-acceptance)
 unfolding its-acceptance
 its-finite = subst Finite (sym (ap (λ (o : Outcome). take 18 (o .lines)) its-outcome)) drawn-finite
 
-its-fills : OnlyClosedFills its-call
+pub its-fills : OnlyClosedFills its-call
 unfolding EachOutline tagsOf its-call its-acceptance
 its-fills =
     record {

@@ -3,3 +3,4 @@ pub mod Scan
 pub mod Convert
 pub mod Check
 pub mod Only
+pub mod Cut

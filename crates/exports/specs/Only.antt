@@ -3,6 +3,7 @@ use Prim.Native.Nat.{ℕ}
 use mathlib.Core.Path.{_≡_, _∙_, sym, ap}
 use mathlib.Core.List.{List}
 use lib.ListN.{length}
+use lib.IntN.{ℤ}
 use lib.Ieee.{Float}
 use Rattle.laws.specs.Only.{Only, determined}
 use Rattle.maths.specs.Numbers.{halfOf}
@@ -12,8 +13,11 @@ use Rattle.scene.specs.Tags.{scanOf}
 use Rattle.flatten.specs.declared.boxes.PathBox.{PathBox}
 use Rattle.flatten.specs.declared.call.Layout.{Layout}
 use Rattle.flatten.specs.Call.{callOf}
+use Rattle.hpgl.specs.Export.{cutOf}
+use Rattle.hpgl.specs.Reading.{readingOf}
 use Rattle.exports.specs.Call.{reported, reportedOf}
 use Rattle.exports.specs.Scan.{scanned, scannedOf}
+use Rattle.exports.specs.Cut.{written, writtenOf, linesRead, linesReadOf}
 use Rattle.checker.specs.Verdict.{toldOf}
 use Rattle.checker.specs.Only.{check-only}
 use Rattle.checker.specs.declared.Verdict.{Verdict}
@@ -74,3 +78,11 @@ hinth-to-f32-only tags points ts ws os r s p q = let e = p ∙ sym q in λ i. (e
 pub hinth-to-i16-only : (tags points ts ws os : List ℕ)
     → Only (λ (r : ℕ × (List ℕ × (List ℕ × List ℕ))). moved (r .0) (r .1 .0) (r .1 .1 .0) (r .1 .1 .1) ≡ movedOf (stored (toI16 tags points (length ts) (length ws)) ts ws) os)
 hinth-to-i16-only tags points ts ws os r s p q = let e = p ∙ sym q in λ i. (e i .number, (e i .tags, (e i .points, e i .out)))
+
+pub hinth-cut-only : (path : ℕ) (ws bs os : List ℕ)
+    → Only (λ (r : ℕ × (List ℕ × List ℕ)). written (r .0) (r .1 .0) (r .1 .1) ≡ writtenOf (cutOf path ws bs) os)
+hinth-cut-only path ws bs os r s p q = let e = p ∙ sym q in λ i. (e i .number, (e i .bytes, e i .out))
+
+pub hinth-read-cut-only : (file : List ℕ) (zs : List ℤ) (os : List ℕ)
+    → Only (λ (r : ℕ × (List ℤ × List ℕ)). linesRead (r .0) (r .1 .0) (r .1 .1) ≡ linesReadOf (readingOf file zs) os)
+hinth-read-cut-only file zs os r s p q = let e = p ∙ sym q in λ i. (e i .number, (e i .numbers, e i .out))

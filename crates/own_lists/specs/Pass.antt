@@ -1,7 +1,7 @@
 -- The shop's own fills pass the check: the theorem. What it speaks of is defined in Fills.antt. Assumes nothing.
-use Prim.Native.Nat.{ℕ, zero, suc, _+_, _*_, _/_, _≤_, _<_}
+use Prim.Native.Nat.{ℕ, zero, suc, _+_, _≤_, _<_}
 use mathlib.Core.Path.{_≡_, refl, sym, ap, _∙_}
-use mathlib.Core.Logic.{inl, inr, ⊎-elim}
+use mathlib.Core.Logic.{_⊎_, inl, inr, ⊎-elim}
 use mathlib.Core.Bool.{Bool}
 use mathlib.Core.List.{List, [], _∷_, _++_}
 use native.Mathlib.Omega.{arith}
@@ -18,7 +18,7 @@ use Rattle.watertight.specs.Fill.{Call, Accepted, outcome, tags, pathAt, drawnA
 use Rattle.watertight.specs.Accepted.{recordsBefore, length-before, done}
 use Rattle.watertight.specs.Stored.{CountedBy, as-drawn}
 use Rattle.watertight.specs.Watertight.{watertight-by}
-use Rattle.own_lists.specs.Fills.{listOf, Outline, ClosedFill, EachOutline, tagsOf, OnlyClosedFills}
+use Rattle.own_lists.specs.Fills.{listOf, Outline, ClosedFill, EachOutline, tagsOf, times, OnlyClosedFills}
 use Rattle.own_lists.specs.Sums.{sumTo, sumOver, Below, once-each}
 
 module _ (c : Call) (a : Accepted c) where
@@ -90,29 +90,36 @@ module _ (c : Call) (a : Accepted c) where
   all-below [] h = tt
   all-below (o ∷ os) h = filled-below (h .0 .run .z) (o .first ∷ o .behind) (tagsOf os) (h .0 .run .filled) (all-below os (h .1))
 
+  -- ---- the whole list
+  adds-nothing : (is : ℕ → ℕ → ℕ → Bool) (at i : ℕ) → drawnAt c i ≡ [] → part is at i ≡ 0
+  unfolding tallyOf
+  adds-nothing is at i e = rw e refl
+
+  module _ (is : ℕ → ℕ → ℕ → Bool) (os : List Outline) (closed : EachOutline (ClosedFill c) os) where
+    -- a tag draws nothing, or nothing that is counted, or belongs to one outline, once
+    abbrev Told : ℕ → Type 0
+    Told at = (i : ℕ) → i < tags c → (drawnAt c i ≡ []) ⊎ ((part is at i ≡ 0) ⊎ (times i (tagsOf os) ≡ 1))
+
+    tally-is : (at : ℕ) → at < 5 → Told at → tallyOf is at (listOf c a) (count (listOf c a)) ≡ sumOver (part is at) (tagsOf os)
+    tally-is at l h =
+        ap (tallyOf is at (listOf c a)) records
+        ∙ tally-among is at (outcome c .lines) (a .count) (a .count) (omega arith) l
+        ∙ ap (tallyOf is at (outcome c .lines)) (done c a .counted)
+        ∙ by-tags is at (tags c)
+        ∙ once-each (part is at) (tags c) (tagsOf os) (all-below os closed) (λ i m. ⊎-elim (λ e. inl (adds-nothing is at i e)) (λ e. e) (h i m))
+
+    pub fills-even : Told 2 → Told 4 → tallyOf is 2 (listOf c a) (count (listOf c a)) ≡ tallyOf is 4 (listOf c a) (count (listOf c a))
+    fills-even h k = tally-is 2 (omega arith) h ∙ all-even is os closed ∙ sym (tally-is 4 (omega arith) k)
+
 -- ---- the theorem
 module _ (c : Call) (f : OnlyClosedFills c) where
   abbrev ws : List ℕ
   ws = listOf c (f .accepted)
 
-  adds-nothing : (is : ℕ → ℕ → ℕ → Bool) (at i : ℕ) → drawnAt c i ≡ [] → tallyOf is at (recordsFrom c i) (length (drawnAt c i)) ≡ 0
-  unfolding tallyOf
-  adds-nothing is at i e = rw e refl
-
-  -- the list's tally, over the outlines
-  tally-is : (is : ℕ → ℕ → ℕ → Bool) (at : ℕ) → at < 5 → tallyOf is at ws (count ws) ≡ sumOver (part c (f .accepted) is at) (tagsOf (f .outlines))
-  tally-is is at l =
-      let a = f .accepted in
-      ap (tallyOf is at ws) (records c a)
-      ∙ tally-among is at (outcome c .lines) (a .count) (a .count) (omega arith) l
-      ∙ ap (tallyOf is at (outcome c .lines)) (done c a .counted)
-      ∙ by-tags c a is at (tags c)
-      ∙ once-each (part c a is at) (tags c) (tagsOf (f .outlines)) (all-below c a (f .outlines) (f .closed-fills)) (λ i m. ⊎-elim (λ e. inl (adds-nothing is at i e)) inr (f .nothing-else i m))
-
   pub fills-balance : Balanced ws
   fills-balance path x y =
-      let is = isPoint path x y in
-      tally-is is 2 (omega arith) ∙ all-even c (f .accepted) is (f .outlines) (f .closed-fills) ∙ sym (tally-is is 4 (omega arith))
+      let told : (at i : ℕ) → i < tags c → (drawnAt c i ≡ []) ⊎ ((part c (f .accepted) (isPoint path x y) at i ≡ 0) ⊎ (times i (tagsOf (f .outlines)) ≡ 1)) = λ at i m. ⊎-elim inl (λ e. inr (inr e)) (f .nothing-else i m) in
+      fills-even c (f .accepted) (isPoint path x y) (f .outlines) (f .closed-fills) (told 2) (told 4)
 
   -- an accepted call that draws closed fills and nothing else, at most 2,000 lines, all coordinates finite: the check says yes
   pub own-fills-pass : Answers ws Sound

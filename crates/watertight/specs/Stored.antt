@@ -54,7 +54,7 @@ module _ (c : Call) (accepted : Accepted c) where
         (tallyOf is 2 (recordsFrom c i) (length (drawnAt c i)) ≡ startsBy f (drawnAt c i))
         × (tallyOf is 4 (recordsFrom c i) (length (drawnAt c i)) ≡ endsBy f (drawnAt c i))
 
-    one : (i : ℕ) → i < tags c → Counts i (oneWhere is (pathAt c i))
+    pub one : (i : ℕ) → i < tags c → Counts i (oneWhere is (pathAt c i))
     unfolding recordsAt
     one i h =
         let p = place i h in

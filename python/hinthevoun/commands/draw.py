@@ -15,8 +15,8 @@ HELP = """usage: hinth draw [--ink] [--arrows] [--tag T] [--mm SIZE] [-o PICTURE
 
 Draws the lines of a list as an SVG picture. With a second list, lays that one over the first.
 
-LIST and OVER are lists, as flatten writes them, or sheets, which are flattened first; - is standard input. The picture
-goes to the file PICTURE, if it is whole, or to standard output.
+LIST and OVER are lists, as flatten writes them, or sheets, which are flattened first, or HP-GL files, as cut writes
+them; - is standard input. The picture goes to the file PICTURE, if it is whole, or to standard output.
 
 Examples:
 
@@ -24,6 +24,7 @@ Examples:
   hinth draw --mm 0.5 --ink samples/socket.lines -o a.svg    a unit is 0.5 mm; shade what is inked
   hinth draw --arrows old.lines new.lines -o both.svg        what both have, what only one has
   hinth draw --tag 7 samples/socket.sheet -o seventh.svg     which lines tag 7 draws
+  hinth draw samples/socket.lines brim.hpgl -o cut.svg       a cut over its drawing
 
 One list    Each path has its colour, of six that repeat, and its box is dashed, with the path's number.
 Two lists   The first is blue and wide, the second orange and narrow. A line that only one of them has is drawn
@@ -39,6 +40,8 @@ Red rings   An open point: among the lines of its path it is not a start as ofte
             their bits, as in docs/WATERTIGHT.md, so +0 and -0 are two. Point at a ring to read it. Of two lists, the
             first has the larger rings. Closed fills have none; a stroke can have some where rounding leaves a last
             bit between its parts, so how near open points lie to each other is said too.
+Cuts        An HP-GL file is drawn in plotter units, its lines as those of path 0; moves with the pen up are dashed. Laid over
+            its drawing, a line is the same as one of the list only where that one has whole coordinates, in path 0.
 Red notes   What the picture lacks: a refused list is drawn up to where it stopped, and a line with an infinite
             coordinate cannot be drawn, nor its path's box and ink.
 Scale bar   Under the drawing, in units, or in millimetres with --mm SIZE, the millimetres that a unit has.

@@ -24,6 +24,7 @@ class Found(NamedTuple):
     refusal: str
     lines: Lines
     boxes: Boxes
+    moves: Lines
     outlines: List[Outline]
     far: List[int]
 

@@ -187,6 +187,14 @@ def boxes_drawn(found: Found, frame: Frame, colour_of: Colours, side: int, taken
     return drawn
 
 
+def moves_drawn(found: Found, frame: Frame, colour: str) -> List[str]:
+    """Where a knife goes with the pen up, dashed. The pointer goes through them, to a line."""
+    starts, ends = frame.all_at(found.moves.starts), frame.all_at(found.moves.ends)
+    moves = [way(start, end) for start, end in zip(starts, ends)]
+    dashes = ' stroke-dasharray="2 6" class="moves" pointer-events="none"'
+    return [inked(moves, colour, 1, dashes)] if moves else []
+
+
 def ring(outline: Outline, point: int, frame: Frame, radius: int) -> str:
     place, (starts, ends) = place_of(point), outline.open[point]
     cx, cy = map(digits, frame.at(place))
@@ -232,7 +240,8 @@ def one_drawn(found: Found, frame: Frame, wishes: Wishes) -> List[str]:
     drawn += boxes_drawn(found, frame, path_colour, 0, Counter())
     colours = [path_colour(outline.path) for outline in found.outlines]
     layers = [Layer(outline.lines, colour, 2, (colour, STRONG)) for outline, colour in zip(found.outlines, colours)]
-    return drawn + layers_drawn(layers, frame, wishes) + [rings_drawn(found, frame, 8)]
+    drawn += layers_drawn(layers, frame, wishes) + moves_drawn(found, frame, INK)
+    return drawn + [rings_drawn(found, frame, 8)]
 
 
 def layers_of_two(first: Found, second: Found) -> Iterator[Layer]:
@@ -252,4 +261,6 @@ def two_drawn(first: Found, second: Found, frame: Frame, wishes: Wishes) -> List
     for side, (found, colour) in enumerate(zip((first, second), list_colours())):
         drawn += boxes_drawn(found, frame, colour, side, taken)
     drawn += layers_drawn(list(layers_of_two(first, second)), frame, wishes)
+    for found, (colour, _) in zip((first, second), ALONE):
+        drawn += moves_drawn(found, frame, colour)
     return drawn + [rings_drawn(first, frame, 11), rings_drawn(second, frame, 7)]

@@ -1,0 +1,39 @@
+-- A path all of whose lines come from closed runs of fills, and how often a plotter point is a start and an end. Definitions only.
+use Prim.Native.Nat.{ℕ, _+_, _<_}
+use mathlib.Core.Path.{_≡_}
+use mathlib.Core.Logic.{_⊎_}
+use mathlib.Core.Bool.{Bool, false, _&&_}
+use mathlib.Core.List.{List, [], _∷_}
+use lib.IntN.{ℤ, pos, negsuc}
+use lib.Dec.{eqb}
+use Rattle.records.specs.Record.{once}
+use Rattle.watertight.specs.Fill.{Call, tags, pathAt, drawnAt}
+use Rattle.own_lists.specs.Fills.{Outline, ClosedFill, EachOutline, tagsOf, times}
+use Rattle.hpgl.specs.Form.{Line}
+use Rattle.hpgl.specs.declared.Point.{Point}
+
+-- what is asked of a path of an accepted call
+pub record ClosedPath (c : Call) (path : ℕ) : Type 0 where
+  pub outlines : List Outline
+  pub closed-fills : EachOutline (ClosedFill c) outlines
+  -- a tag draws nothing, or in another path, or belongs to one outline, once
+  pub nothing-else : (i : ℕ) → i < tags c → (drawnAt c i ≡ []) ⊎ ((pathAt c i ≡ path → ⊥) ⊎ (times i (tagsOf outlines) ≡ 1))
+
+-- ---- plotter points
+unfoldable pub sameNumber : ℤ → ℤ → Bool
+sameNumber (pos m) (pos n) = eqb m n
+sameNumber (pos m) (negsuc n) = false
+sameNumber (negsuc m) (pos n) = false
+sameNumber (negsuc m) (negsuc n) = eqb m n
+
+unfoldable pub samePoint : Point → Point → Bool
+samePoint p q = sameNumber (p .x) (q .x) && sameNumber (p .y) (q .y)
+
+-- how often p is the start of a line, and how often an end
+unfoldable pub startsAt : Point → List Line → ℕ
+startsAt p [] = 0
+startsAt p (l ∷ ls) = once (samePoint p (l .from)) + startsAt p ls
+
+unfoldable pub endsAt : Point → List Line → ℕ
+endsAt p [] = 0
+endsAt p (l ∷ ls) = once (samePoint p (l .to)) + endsAt p ls

@@ -1,0 +1,1 @@
+// A closed outline is a closed cut: see specs/. No code.

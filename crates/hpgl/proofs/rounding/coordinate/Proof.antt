@@ -1,0 +1,20 @@
+-- `hpgl::rounding::coordinate` meets its contract. Assumes nothing.
+use borrow.Author.Needs.{needs}
+use Rattle.hpgl.specs.Bits.{far-bad, size-bad, size-good}
+use Rattle.hpgl.proofs.rounding.coordinate.Statement.{statement}
+use Rattle.hpgl.proofs.rounding.coordinate.Tie as tie
+
+returns : tie.Need-returns
+returns c = far-bad (c .before .args .word) (c .if1 .taken)
+
+size-of-requires : tie.Need-size-of-requires
+size-of-requires c κs = search needs
+
+returns-2 : tie.Need-returns-2
+returns-2 c = size-bad (c .before .before .before .args .word) (c .before .before .if1 .left) (c .before .size-of .result) (c .before .size-of .ensures) (c .if2 .taken)
+
+returns-3 : tie.Need-returns-3
+returns-3 c = size-good (c .before .before .before .args .word) (c .before .before .if1 .left) (c .before .size-of .result) (c .before .size-of .ensures) (c .if2 .left)
+
+pub coordinate-spec : {M : Type 1} → statement M
+coordinate-spec = tie.close (tie.spec returns size-of-requires returns-2 returns-3)
