@@ -1,0 +1,5 @@
+pub mod Commands
+pub mod Drawn
+pub mod Meaning
+pub mod Encoded
+pub mod Only
