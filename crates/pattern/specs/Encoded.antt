@@ -70,22 +70,28 @@ holds-last W lent now n w h f =
 
 -- ---- encodings
 
-words-append : (ps qs : List Spot) → wordsOf (ps ++ qs) ≡ wordsOf ps ++ wordsOf qs
+pub words-append : (ps qs : List Spot) → wordsOf (ps ++ qs) ≡ wordsOf ps ++ wordsOf qs
 unfolding wordsOf
 words-append [] qs = refl
 words-append (p ∷ ps) qs = ap (λ (ws : List ℕ). p .x ∷ p .y ∷ ws) (words-append ps qs)
 
-spots-append : (gs hs : List Segment) → allSpots (gs ++ hs) ≡ allSpots gs ++ allSpots hs
+pub spots-append : (gs hs : List Segment) → allSpots (gs ++ hs) ≡ allSpots gs ++ allSpots hs
 unfolding allSpots
 spots-append [] hs = refl
 spots-append (g ∷ gs) hs = ap (λ (ps : List Spot). spots g ++ ps) (spots-append gs hs) ∙ sym (append-assoc (spots g) (allSpots gs) (allSpots hs))
 
 -- the points with one segment more
-spots-more : (p : Spot) (gs : List Segment) (g : Segment) → wordsOf (p ∷ allSpots (gs ++ (g ∷ []))) ≡ wordsOf (p ∷ allSpots gs) ++ wordsOf (spots g)
+pub spots-more : (p : Spot) (gs : List Segment) (g : Segment) → wordsOf (p ∷ allSpots (gs ++ (g ∷ []))) ≡ wordsOf (p ∷ allSpots gs) ++ wordsOf (spots g)
 unfolding allSpots
 spots-more p gs g =
     ap (λ (ps : List Spot). wordsOf (p ∷ ps)) (spots-append gs (g ∷ []) ∙ ap (λ (ps : List Spot). allSpots gs ++ ps) (append-nil (spots g)))
     ∙ words-append (p ∷ allSpots gs) (spots g)
+
+-- they end where their last one does
+pub end-more : (p : Spot) (gs : List Segment) (g : Segment) → endOf p (gs ++ (g ∷ [])) ≡ target g
+unfolding endOf
+end-more p [] g = refl
+end-more p (h ∷ gs) g = end-more (target h) gs g
 
 pub tags-append : (ss rs : List Subpath) → tagsOf (ss ++ rs) ≡ tagsOf ss ++ tagsOf rs
 unfolding tagsOf
@@ -310,11 +316,6 @@ module _ (lent lent' : List ℕ) where
   unfolding openedBy
   opened-more [] g = refl
   opened-more (h ∷ gs) g = refl
-
-  end-more : (p : Spot) (gs : List Segment) (g : Segment) → endOf p (gs ++ (g ∷ [])) ≡ target g
-  unfolding endOf
-  end-more p [] g = refl
-  end-more p (h ∷ gs) g = end-more (target h) gs g
 
   goes-on : (u : Unfinished) (s : Place) (g : Segment) → At u s → mayDraw (s .opened) (draw g) ≡ true → At (goesOn u g) (placeOf s (draw g))
   unfolding goesOn placeOf mayDraw

@@ -2,4 +2,5 @@ pub mod Commands
 pub mod Drawn
 pub mod Meaning
 pub mod Encoded
+pub mod Closed
 pub mod Only
