@@ -1,5 +1,5 @@
 -- Where a caller puts what commands wrote, and what is decoded there by the scene's own definitions. Definitions only.
-use Prim.Native.Nat.{ℕ, zero, suc, _+_, _*_, _%_, _^_, _<_, _≤_}
+use Prim.Native.Nat.{ℕ, zero, suc, _+_, _/_, _%_, _^_, _<_, _≤_}
 use mathlib.Core.Path.{_≡_}
 use mathlib.Core.Bool.{Bool, true, false, _&&_, cond}
 use mathlib.Core.List.{List, [], _∷_, _++_}
@@ -10,10 +10,32 @@ use Rattle.scene.specs.Tags.{bit, less, tagOf}
 use Rattle.scene.specs.Reading.{wide, segmentOf, flagsOf}
 use Rattle.scene.specs.Fresh.{byteOf, sumsTo, Fresh}
 use Rattle.scene.specs.declared.tags.PathTagData.{PathTagData}
-use Rattle.pattern.specs.Commands.{Segment, spots, target}
-use Rattle.pattern.specs.Meaning.{Subpath}
+use Rattle.pattern.specs.Commands.{Segment, spots, target, Command, Outcome}
+use Rattle.pattern.specs.Meaning.{Subpath, nothing, meant, fresh, after, accepted}
 use Rattle.pattern.specs.declared.pen.Spot.{Spot}
-use Rattle.watertight.specs.Fill.{Call, tags}
+use Rattle.pattern.specs.declared.pen.Open.the-variants.{Nothing}
+use Rattle.watertight.specs.Fill.{Call}
+
+-- ---- what commands wrote
+
+-- what they leave, with a fresh pen and these buffers
+abbrev pub left : List ℕ → List ℕ → List Command → Outcome
+left tags points cs = after (fresh tags points) cs
+
+-- the subpaths that the accepted ones mean
+abbrev pub subpaths : List ℕ → List ℕ → List Command → List Subpath
+subpaths tags points cs = meant nothing (accepted (fresh tags points) cs)
+
+-- an end finished them: nothing is open
+abbrev pub Finished : Outcome → Type 0
+Finished o = o .pen .place .opened ≡ Nothing
+
+-- what the pen counts
+abbrev pub drawnTags : Outcome → List ℕ
+drawnTags o = take (o .pen .tags) (o .tags)
+
+abbrev pub drawnPoints : Outcome → List ℕ
+drawnPoints o = take (o .pen .points) (o .points)
 
 -- ---- where they stand
 
@@ -33,6 +55,11 @@ pub record Here (c : Call) (at : ℕ) (bytes words : List ℕ) : Type 0 where
   pub byte : (j : ℕ) → j < length bytes → byteOf (tagWords c) (at + j) ≡ getD bytes j 0
   pub its-data : take (length words) (drop (dataAt c at) (c .scene)) ≡ words
 
+-- the first n tags lie in the scene, and a prefix was lent for each of their words
+pub record Lent (c : Call) (f : FreshCall c) (n : ℕ) : Type 0 where
+  pub words : c .layout .«tag_base» + (n + 3) / 4 ≤ length (c .scene)
+  pub prefixes : (n + 3) / 4 ≤ length (f .lent) / 4
+
 -- the transform and the style that hold at a tag: the last ones begun before it
 abbrev pub transformAt : Call → ℕ → ℕ
 transformAt c i = less (sumsTo (tagWords c) i .«trans_ix») 1
@@ -49,6 +76,11 @@ pub record FillAt (c : Call) (i : ℕ) : Type 0 where
 -- below 2^31 point words, those before counted
 abbrev pub Few : Call → ℕ → List ℕ → Type 0
 Few c at words = sumsTo (tagWords c) at .«pathseg_offset» + length words < 2 ^ 31
+
+-- what commands wrote stands in the call, from tag `at` on
+pub record Placed (c : Call) (at : ℕ) (o : Outcome) : Type 0 where
+  pub here : Here c at (drawnTags o) (drawnPoints o)
+  pub few : Few c at (drawnPoints o)
 
 -- ---- what is decoded
 

@@ -39,7 +39,7 @@ pub record Takes (byte n : ℕ) : Type 0 where
   pub style : tagSums byte .«style_ix» ≡ 0
 
 module _ (c : Call) (i : ℕ) where
-  under-self : Under c i i
+  pub under-self : Under c i i
   under-self = record { transform = refl; style = refl }
 
   module _ (j byte n : ℕ) (t : Takes byte n) (e : byteOf (tagWords c) j ≡ byte) where
