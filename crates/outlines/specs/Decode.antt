@@ -98,6 +98,12 @@ module _ (c : Call) (p : Spot) (g : Segment) (last : Bool) where
 
 -- ---- all of them
 
+pub length-tags : (gs : List Segment) → length (segmentTags gs) ≡ length gs
+unfolding segmentTags
+length-tags [] = refl
+length-tags (g ∷ []) = refl
+length-tags (g ∷ h ∷ gs) = ap suc (length-tags (h ∷ gs))
+
 module _ (c : Call) (at n : ℕ) (known : (i : ℕ) → i < n → eqb (byteOf (tagWords c) i) 0 ≡ false → Known c i) where
   known-drawn : (i : ℕ) (p : Spot) (g : Segment) (last : Bool) → i < n → Drawn c at i p g last → Known c i
   known-drawn i p g last l d = known i l (subst (λ (b : ℕ). eqb b 0 ≡ false) (sym (d .byte)) (byte-is g last .some))
@@ -129,12 +135,6 @@ module _ (c : Call) (at n : ℕ) (known : (i : ℕ) → i < n → eqb (byteOf (t
 
       suc-plus' : (a b : ℕ) → suc a + b ≡ a + suc b
       suc-plus' a b = omega arith
-
-  length-tags : (gs : List Segment) → length (segmentTags gs) ≡ length gs
-  unfolding segmentTags
-  length-tags [] = refl
-  length-tags (g ∷ []) = refl
-  length-tags (g ∷ h ∷ gs) = ap suc (length-tags (h ∷ gs))
 
   of-walks : (i : ℕ) (ss : List Subpath) → i + length (tagsOf ss) ≤ n → Walks c at i ss → decoded c i (length (tagsOf ss)) ≡ pieces ss
   unfolding Walks tagsOf pieces decoded

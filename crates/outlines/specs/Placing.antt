@@ -14,7 +14,8 @@ use Rattle.pattern.specs.Commands.{Segment, spots, target, Command, Outcome}
 use Rattle.pattern.specs.Meaning.{Subpath, nothing, meant, fresh, after, accepted}
 use Rattle.pattern.specs.declared.pen.Spot.{Spot}
 use Rattle.pattern.specs.declared.pen.Open.the-variants.{Nothing}
-use Rattle.watertight.specs.Fill.{Call}
+use Rattle.watertight.specs.Count.{starts, ends}
+use Rattle.watertight.specs.Fill.{Call, Run, Closed, linesOf, stored}
 
 -- ---- what commands wrote
 
@@ -121,3 +122,28 @@ piecesFrom p (g ∷ h ∷ gs) = piece (p ∷ spots g) false ∷ piecesFrom (targ
 unfoldable pub pieces : List Subpath → List Piece
 pieces [] = []
 pieces (s ∷ ss) = piecesFrom (s .start) (s .segments) ++ pieces ss
+
+-- ---- which tags draw which subpath
+
+-- n tags from tag i on
+unfoldable pub tagsFrom : ℕ → ℕ → List ℕ
+tagsFrom i zero = []
+tagsFrom i (suc n) = i ∷ tagsFrom (suc i) n
+
+-- the tags of each subpath, one subpath behind the other
+unfoldable pub outlines : ℕ → List Subpath → List (List ℕ)
+outlines i [] = []
+outlines i (s ∷ ss) = tagsFrom i (length (s .segments)) ∷ outlines (i + length (s .segments)) ss
+
+-- these tags are a closed run in the sense of demand 3
+pub record ClosedRun (c : Call) (is : List ℕ) : Type 0 where
+  pub first : ℕ
+  pub others : List ℕ
+  pub tags : is ≡ first ∷ others
+  pub run : Run c first others
+  pub closed : Closed c first others
+
+-- every point, by its bits, is a line's start as often as an end: among the lines that these tags draw, and in the records that they left in the lent words
+pub record Watertight (c : Call) (is : List ℕ) : Type 0 where
+  pub drawn : (x y : ℕ) → starts x y (linesOf c is) ≡ ends x y (linesOf c is)
+  pub in-records : (x y : ℕ) → stored c 2 x y is ≡ stored c 4 x y is

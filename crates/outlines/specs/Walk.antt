@@ -14,7 +14,8 @@ use Rattle.scene.specs.declared.tags.PathMonoid.{PathMonoid}
 use Rattle.pattern.specs.Commands.{wordsOf, Segment, line, quad, cubic, spots, target, tagOf}
 use Rattle.pattern.specs.Meaning.{Subpath, segmentTags, allSpots, tagsOf, pointsOf}
 use Rattle.pattern.specs.Encoded.{words-append}
-use Rattle.pattern.specs.Closed.{Every, none, more, Closed}
+use Rattle.pattern.specs.Every.{Every, none, more}
+use Rattle.pattern.specs.Closed.{Closed}
 use Rattle.pattern.specs.declared.pen.Spot.{Spot}
 use Rattle.watertight.specs.Fill.{Call}
 use Rattle.outlines.specs.Placing.{tagWords, dataAt, Here, Few}

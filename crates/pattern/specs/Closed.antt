@@ -12,14 +12,11 @@ use Rattle.laws.specs.Same.{same-refl}
 use Rattle.spiral.specs.Util.{hasNan}
 use Rattle.spiral.specs.Points.{same-point→eq}
 use Rattle.scene.specs.Reading.{allFinite}
+use Rattle.pattern.specs.Every.{Every, none, more}
 use Rattle.pattern.specs.Commands.{pointOf, same, wordsOf, floatsOf, numbers, Segment, line, spots, target, Command, move, draw, end, inkOf, placeOf, Outcome, outcome, written, named}
 use Rattle.pattern.specs.Meaning.{Subpath, subpath, endOf, closing, Unfinished, nothing, begun, finishedBy, finished, goesOn, meant, allSpots, fresh, next, after, kept, accepted}
 use Rattle.pattern.specs.Encoded.{words-append, spots-append, spots-more, end-more, by-answer}
 use Rattle.pattern.specs.declared.pen.Spot.{Spot}
-
-pub data Every {A : Type 0} (P : A → Type 0) : List A → Type 0 where
-  none : Every P []
-  more : {x : A} {xs : List A} → P x → Every P xs → Every P (x ∷ xs)
 
 every-append : {A : Type 0} {P : A → Type 0} {xs ys : List A} → Every P xs → Every P ys → Every P (xs ++ ys)
 every-append none k = k
@@ -45,6 +42,14 @@ numbers-append [] ys h k = k
 numbers-append (x ∷ xs) ys h k =
     let b = both (finite (ofBits binary32 x)) (numbers xs) h in
     rw (b .0) (numbers-append xs ys (b .1) k)
+
+pub numbers-parts : (xs ys : List ℕ) → numbers (xs ++ ys) ≡ true → (numbers xs ≡ true) × (numbers ys ≡ true)
+unfolding floatsOf allFinite
+numbers-parts [] ys h = (refl, h)
+numbers-parts (x ∷ xs) ys h =
+    let b = both (finite (ofBits binary32 x)) (numbers (xs ++ ys)) h in
+    let k = numbers-parts xs ys (b .1) in
+    (rw (b .0) (k .0), k .1)
 
 finite-not-nan : (x : Float) → finite x ≡ true → isNan x ≡ false
 unfolding finite isNan

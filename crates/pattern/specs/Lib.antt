@@ -1,3 +1,4 @@
+pub mod Every
 pub mod Commands
 pub mod Drawn
 pub mod Meaning
