@@ -1,3 +1,4 @@
 pub mod Call
 pub mod Scan
+pub mod Pen
 pub mod Only

@@ -11,8 +11,10 @@ use Rattle.scene.specs.Tags.{scanOf}
 use Rattle.flatten.specs.declared.boxes.PathBox.{PathBox}
 use Rattle.flatten.specs.declared.call.Layout.{Layout}
 use Rattle.flatten.specs.Call.{callOf}
+use Rattle.pattern.specs.Commands.{Command, move, draw, end, line, quad, cubic}
 use Rattle.exports.specs.Call.{reported, reportedOf}
 use Rattle.exports.specs.Scan.{scanned, scannedOf}
+use Rattle.exports.specs.Pen.{spotOf, penned, pennedBy}
 
 pub hinth-flatten-only : (layout : Layout) (scene prefixes : List ℕ) (ps : List PathBox) (ws os : List ℕ)
     → Only (λ (r : ℕ × (List PathBox × (List ℕ × List ℕ))). reported (r .0) (r .1 .0) (r .1 .1 .0) (r .1 .1 .1) ≡ reportedOf (callOf layout scene prefixes ps ws) os)
@@ -51,3 +53,29 @@ hinth-atan2-only y x = determined (atan2Of y x)
 
 pub hinth-half-only : (word : ℕ) → Only (λ (r : Float). r ≡ halfOf word)
 hinth-half-only word = determined (halfOf word)
+
+-- a command of the pen, with the four that it may write
+abbrev pub Lent : Type 0
+Lent = ℕ × (List ℕ × (List ℕ × List ℕ))
+
+command-only : (ws : List ℕ) (command : Command) (tags points : List ℕ) → Only (λ (r : Lent). penned (r .0) (r .1 .0) (r .1 .1 .0) (r .1 .1 .1) ≡ pennedBy ws command tags points)
+command-only ws command tags points r s p q = let e = p ∙ sym q in λ i. (e i .number, (e i .pen, (e i .tags, e i .points)))
+
+module _ (ws tags points : List ℕ) where
+  abbrev pub Pens : Command → Lent → Type 0
+  Pens command r = penned (r .0) (r .1 .0) (r .1 .1 .0) (r .1 .1 .1) ≡ pennedBy ws command tags points
+
+  pub hinth-move-only : (x y : Float) → Only (Pens (move (spotOf x y)))
+  hinth-move-only x y = command-only ws (move (spotOf x y)) tags points
+
+  pub hinth-line-only : (x y : Float) → Only (Pens (draw (line (spotOf x y))))
+  hinth-line-only x y = command-only ws (draw (line (spotOf x y))) tags points
+
+  pub hinth-quad-only : (x1 y1 x y : Float) → Only (Pens (draw (quad (spotOf x1 y1) (spotOf x y))))
+  hinth-quad-only x1 y1 x y = command-only ws (draw (quad (spotOf x1 y1) (spotOf x y))) tags points
+
+  pub hinth-cubic-only : (x1 y1 x2 y2 x y : Float) → Only (Pens (draw (cubic (spotOf x1 y1) (spotOf x2 y2) (spotOf x y))))
+  hinth-cubic-only x1 y1 x2 y2 x y = command-only ws (draw (cubic (spotOf x1 y1) (spotOf x2 y2) (spotOf x y))) tags points
+
+  pub hinth-end-only : Only (Pens end)
+  hinth-end-only = command-only ws end tags points

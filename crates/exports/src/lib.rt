@@ -1,11 +1,12 @@
-// The C interface: each function is one of `maths`, `scene` or `flatten` under a name that C and Rust
-// can link. See include/hinthevoun.h.
+// The C interface: each function is one of `maths`, `scene`, `flatten` or `pattern` under a name that
+// C and Rust can link. See include/hinthevoun.h.
 ghost use mathlib.Core.Path.{_≡_};
 ghost use Rattle.maths.specs.Numbers.{halfOf};
 ghost use Rattle.maths.specs.Roots.{sqrtOf, hypotOf, cbrtOf, twoThirdsOf};
 ghost use Rattle.maths.specs.Trig.{sinOf, cosOf, atan2Of, asinOf, acosOf};
 
 pub mod call;
+pub mod pen;
 pub mod scan;
 
 #[no_mangle]

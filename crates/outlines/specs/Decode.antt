@@ -141,7 +141,7 @@ module _ (c : Call) (at n : ℕ) (known : (i : ℕ) → i < n → eqb (byteOf (t
   of-walks i [] l w = refl
   of-walks i (s ∷ ss) l w =
       let size : length (segmentTags (s .segments) ++ tagsOf ss) ≡ length (s .segments) + length (tagsOf ss) =
-          length-append (segmentTags (s .segments)) (tagsOf ss) ∙ ap (λ (k : ℕ). k + length (tagsOf ss)) (length-tags (s .segments)) in
+      length-append (segmentTags (s .segments)) (tagsOf ss) ∙ ap (λ (k : ℕ). k + length (tagsOf ss)) (length-tags (s .segments)) in
       ap (decoded c i) size
       ∙ two-parts i (length (s .segments)) (length (tagsOf ss))
       ∙ ap (λ (ks : List Piece). ks ++ decoded c (i + length (s .segments)) (length (tagsOf ss))) (of-walk i (s .start) (s .segments) (omega (arith, size)) (w .0))

@@ -85,7 +85,7 @@ module _ (c : Call) (a : Accepted c) (f : FreshCall c) (at : ℕ) (fill : FillAt
         let style = ap (λ (t : PathTagData). t .monoid .«style_ix») its-tag in
         let there : styleAt c i ≡ styleAt c at = ap (λ (n : ℕ). (n + (2 ^ 32 - 2)) % 2 ^ 32) (d .under .style) in
         let k : flagsOf (c .scene) (c .layout .«style_base») (headOf c i .tag .monoid .«style_ix») ≡ found (fill .flags) =
-            ap (flagsOf (c .scene) (c .layout .«style_base»)) (style ∙ there) ∙ fill .read in
+        ap (flagsOf (c .scene) (c .layout .«style_base»)) (style ∙ there) ∙ fill .read in
         cc (parts .1)
 
     its-type : typeOf c i ≡ length (spots g)
@@ -180,8 +180,7 @@ module _ (c : Call) (a : Accepted c) (f : FreshCall c) (at : ℕ) (fill : FillAt
   unfolding Walk Follows tagsFrom
   follows i p g [] l n w = tt
   follows i p g (h ∷ gs) l n w =
-      let k = onward p g (h ∷ gs) n in
-      (
+      let k = onward p g (h ∷ gs) n in (
         meets i (suc i) (target g) (target g) (last-is i (omega arith) p g false (w .0)) (starts-there (suc i) (target g) h gs (omega arith) (w .1)) (same-self (target g) (k .0)),
         follows (suc i) (target g) h gs (omega arith) (k .1) (w .1),
       )
@@ -216,7 +215,7 @@ module _ (c : Call) (a : Accepted c) (f : FreshCall c) (at : ℕ) (fill : FillAt
   all-runs i [] none l w = none
   all-runs i (s ∷ ss) (more k ks) l w =
       let size : length (segmentTags (s .segments) ++ tagsOf ss) ≡ length (s .segments) + length (tagsOf ss) =
-          length-append (segmentTags (s .segments)) (tagsOf ss) ∙ ap (λ (n : ℕ). n + length (tagsOf ss)) (length-tags (s .segments)) in
+      length-append (segmentTags (s .segments)) (tagsOf ss) ∙ ap (λ (n : ℕ). n + length (tagsOf ss)) (length-tags (s .segments)) in
       more (closed-run i s k (omega (arith, size)) (w .0)) (all-runs (i + length (s .segments)) ss ks (omega (arith, size)) (w .1))
 
 -- ---- the theorems

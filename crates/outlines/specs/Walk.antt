@@ -186,8 +186,7 @@ module _ (c : Call) (at : ℕ) where
   unfolding Walk segmentTags allSpots tagByte
   walk i p g [] us qs b =
       let e : wordsOf (p ∷ (spots g ++ [])) ++ qs ≡ wordsOf (p ∷ spots g) ++ qs = ap (λ (ps : List Spot). wordsOf (p ∷ ps) ++ qs) (append-nil (spots g)) in
-      let one : suc i ≡ i + 1 = omega arith in
-      (
+      let one : suc i ≡ i + 1 = omega arith in (
         draws i (tagOf g + 0x04) us _ b p g true qs refl e,
         subst (λ (j : ℕ). Behind c at j us qs) one (next i (tagOf g + 0x04) us _ b (wordsOf (p ∷ spots g)) qs (takes-all p g) e),
       )
@@ -195,8 +194,7 @@ module _ (c : Call) (at : ℕ) where
       let ps = allSpots (h ∷ gs) in
       let vs = segmentTags (h ∷ gs) ++ us in
       let k = walk (suc i) (target g) h gs us qs (next i (tagOf g) vs _ b (wordsOf (p ∷ inner g)) (wordsOf (target g ∷ ps) ++ qs) (takes-inner p g) (by-inner p g ps qs)) in
-      let there : suc i + length (h ∷ gs) ≡ i + length (g ∷ h ∷ gs) = omega arith in
-      (
+      let there : suc i + length (h ∷ gs) ≡ i + length (g ∷ h ∷ gs) = omega arith in (
         (draws i (tagOf g) vs _ b p g false (wordsOf ps ++ qs) refl (by-spots p g ps qs), k .0),
         subst (λ (j : ℕ). Behind c at j us qs) there (k .1),
       )

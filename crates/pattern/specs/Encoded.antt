@@ -36,11 +36,11 @@ module _ {W lent now : List ℕ} {n : ℕ} (h : Holds W lent now n) where
       let size : length (W ++ U) ≡ n + length U = length-append W U ∙ omega (arith, h .count) in
       let front : take n now ≡ W = ap (take n) (h .words) ∙ take-at W (drop (length W) lent) n (sym (h .count)) in
       let back : drop (n + length U) now ≡ drop (length (W ++ U)) lent =
-          sym (drop-drop (length U) n now)
-          ∙ ap (λ (ws : List ℕ). drop (length U) (drop n ws)) (h .words)
-          ∙ ap (drop (length U)) (drop-at W (drop (length W) lent) n (sym (h .count)))
-          ∙ drop-drop (length U) (length W) lent
-          ∙ ap (λ (k : ℕ). drop k lent) (sym (length-append W U)) in
+      sym (drop-drop (length U) n now)
+      ∙ ap (λ (ws : List ℕ). drop (length U) (drop n ws)) (h .words)
+      ∙ ap (drop (length U)) (drop-at W (drop (length W) lent) n (sym (h .count)))
+      ∙ drop-drop (length U) (length W) lent
+      ∙ ap (λ (k : ℕ). drop k lent) (sym (length-append W U)) in
       record {
         count = sym size;
         words = sets-eq U now n l ∙ ap (λ (ws : List ℕ). ws ++ U ++ drop (n + length U) now) front ∙ ap (λ (ws : List ℕ). W ++ U ++ ws) back;

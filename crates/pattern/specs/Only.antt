@@ -5,7 +5,8 @@ use mathlib.Core.Bool.{cond}
 use mathlib.Core.List.{List}
 use lib.Dec.{eqb}
 use Rattle.laws.specs.Only.{Only, determined}
-use Rattle.pattern.specs.Commands.{Command, Outcome, numberOf, told, commandOf}
+use Rattle.pattern.specs.Commands.{Command, move, draw, end, line, quad, cubic, Outcome, numberOf, told, commandOf}
+use Rattle.pattern.specs.declared.pen.Spot.{Spot}
 use Rattle.pattern.specs.declared.pen.Pen.{Pen}
 use Rattle.pattern.specs.declared.pen.Answer.{Answer}
 use Rattle.pattern.specs.declared.pen.Answer.the-variants.{Accepted, NoMove, NoRoom, NotFinite}
@@ -26,7 +27,7 @@ number-names NoRoom = refl
 number-names NotFinite = refl
 
 -- an answer with the buffers, from what is told of them
-abbrev Left : Type 0
+abbrev pub Left : Type 0
 Left = Drew × (List ℕ × List ℕ)
 
 back : Outcome → Left
@@ -40,6 +41,22 @@ told-back x = ap (λ (answer : Answer). (record { answer = answer; pen = x .0 .p
 told-only : (o : Outcome) → Only (λ (x : Left). told (x .0) (x .1 .0) (x .1 .1) ≡ o)
 told-only o x y p q = sym (told-back x) ∙ ap back (p ∙ sym q) ∙ told-back y
 
--- move_to, line_to, quad_to, cubic_to and end, each by its command
-pub command-only : (pen : Pen) (command : Command) (tags points : List ℕ) → Only (λ (x : Left). told (x .0) (x .1 .0) (x .1 .1) ≡ commandOf pen command tags points)
-command-only pen command tags points = told-only (commandOf pen command tags points)
+module _ (pen : Pen) (tags points : List ℕ) where
+  -- what a command leaves, and nothing else
+  abbrev pub Leaves : Command → Left → Type 0
+  Leaves command x = told (x .0) (x .1 .0) (x .1 .1) ≡ commandOf pen command tags points
+
+  pub move-to-only : (to : Spot) → Only (Leaves (move to))
+  move-to-only to = told-only (commandOf pen (move to) tags points)
+
+  pub line-to-only : (to : Spot) → Only (Leaves (draw (line to)))
+  line-to-only to = told-only (commandOf pen (draw (line to)) tags points)
+
+  pub quad-to-only : (by to : Spot) → Only (Leaves (draw (quad by to)))
+  quad-to-only by to = told-only (commandOf pen (draw (quad by to)) tags points)
+
+  pub cubic-to-only : (from by to : Spot) → Only (Leaves (draw (cubic from by to)))
+  cubic-to-only from by to = told-only (commandOf pen (draw (cubic from by to)) tags points)
+
+  pub end-only : Only (Leaves end)
+  end-only = told-only (commandOf pen end tags points)
