@@ -1,19 +1,20 @@
-//! The library as others link it: a small C program that includes the header is compiled, linked with the same archive
+//! The library as others link it: small C programs that include the header are compiled, linked with the same archive
 //! and run, and so are the tests of the Rust wrapper.
 
 use crate::sweep::Tally;
 use std::path::{Path, PathBuf};
 use std::process::Command;
 
-pub fn header() -> Tally {
+/// Compiles, links and runs harness/c/NAME.c.
+pub fn header(name: &str) -> Tally {
     let root = root();
-    let program = root.join("target/harness/interface");
+    let program = root.join("target/harness").join(name);
     let compiled = output(
         Command::new("cc")
             .args(["-std=c99", "-pedantic", "-Wall", "-Wextra", "-Werror", "-O1"])
             .arg("-I")
             .arg(root.join("include"))
-            .arg(root.join("harness/c/interface.c"))
+            .arg(root.join("harness/c").join(name).with_extension("c"))
             .arg(root.join("target/staticlib/libexports.a"))
             .arg("-o")
             .arg(&program),

@@ -6,6 +6,7 @@ mod exact;
 mod ffi;
 mod half;
 mod interface;
+mod pattern;
 mod random;
 mod report;
 mod roots;
@@ -52,11 +53,13 @@ fn main() -> ExitCode {
 /// Runs the checks whose names begin with `only`.
 fn checks(extent: Extent, only: &str) -> ExitCode {
     let mut report = Report::new(only);
-    report.check("C header: a C program that uses it", interface::header);
+    report.check("C header: a C program that uses it", || interface::header("interface"));
+    report.check("C header: a C program that draws", || interface::header("pattern"));
     report.check("Rust wrapper: its tests", interface::wrapper);
     roots::run(&mut report, extent);
     trig::run(&mut report, extent);
     angles::run(&mut report, extent);
+    pattern::run(&mut report, extent);
     match report.close() {
         true => ExitCode::SUCCESS,
         false => ExitCode::FAILURE,

@@ -22,6 +22,7 @@
 //! ```
 
 mod ffi;
+pub mod pattern;
 
 /// Where in a scene its parts begin, in words, and how many workgroups of 256 tags to take.
 #[derive(Clone, Copy, Debug, PartialEq, Eq)]
