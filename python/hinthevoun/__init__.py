@@ -5,6 +5,9 @@ The functions are those of include/hinthevoun.h, one for one:
     scan, flatten                                   from tags, points, transforms and styles to lines and boxes
     sqrt, hypot, cbrt, two_thirds, half,
     sin, cos, atan2, asin, acos                     the mathematics, each answer an f32
+    move, line, quad, cubic, end                    drawing fills: from commands to tags and points, with a Pen
+
+Sheet draws a whole sheet with these: docs/DRAWING.md.
 
 A list is an array, bytes, a memoryview or any other buffer of 32-bit words; it is lent as it is, without a copy. A
 refusal is the exception Refusal. The triangle of docs/FLATLIST.md:
@@ -18,10 +21,13 @@ refusal is the exception Refusal. The triangle of docs/FLATLIST.md:
     hinthevoun.flatten(*layout, scene, prefixes, boxes, lines)    # 3, and three lines of six words in `lines`
 """
 from .calls import EMPTY_BOX, Layout, empty_boxes, flatten, scan
+from .drawing import Sheet
 from .errors import NoLibrary, Wrong
 from .maths import acos, asin, atan2, cbrt, cos, half, hypot, sin, sqrt, two_thirds
+from .pattern import NotDrawn, Pen, cubic, end, line, move, quad
 from .refusals import Refusal
 
 __version__ = "0.1.0"
-__all__ = ["EMPTY_BOX", "Layout", "NoLibrary", "Refusal", "Wrong", "acos", "asin", "atan2", "cbrt", "cos", "empty_boxes",
-           "flatten", "half", "hypot", "scan", "sin", "sqrt", "two_thirds"]
+__all__ = ["EMPTY_BOX", "Layout", "NoLibrary", "NotDrawn", "Pen", "Refusal", "Sheet", "Wrong", "acos", "asin", "atan2", "cbrt",
+           "cos", "cubic", "empty_boxes", "end", "flatten", "half", "hypot", "line", "move", "quad", "scan", "sin", "sqrt",
+           "two_thirds"]

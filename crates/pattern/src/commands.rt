@@ -1,7 +1,7 @@
 // The five commands. Each looks at what it is given before it writes, 20, then 22, then 21, so that a refusal changes nothing.
 ghost use mathlib.Core.Path.{_≡_};
 ghost use mathlib.Core.List.{List, [], _∷_, _++_};
-ghost use Prim.Native.Nat.{ℕ, _+_, _≤_};
+ghost use Prim.Native.Nat.{ℕ, _+_, _%_, _≤_};
 ghost use lib.Dec.{leb};
 ghost use lib.ListN.{length, take};
 ghost use lib.Seq.{sets};
@@ -27,18 +27,20 @@ fn has_room(length: usize, at: u64, n: usize) -> bool
     false
 }
 
+// A point, two words, at a turn: of a loop that copies word by word the compiler would make a call of C's memcpy.
 fn put_words(points: &mut [u32], at: usize, words: [u32; 8], n: usize)
-    requires { ⌜ (n ≤ 8) × (at + n ≤ length (now points)) ⌝ }
+    requires { ⌜ (n ≤ 8) × (n % 2 ≡ 0) × (at + n ≤ length (now points)) ⌝ }
     ensures { λ _. ⌜ now (points .exit) ≡ sets (now (points .entry)) at (take n words) ⌝ }
 {
     let mut k: usize = 0;
     while k < n {
         points[at + k] = words[k];
-        k += 1;
+        points[at + k + 1] = words[k + 1];
+        k += 2;
     }
 }
 
-// One tag and the first n of the words.
+// One tag and the first n of the words, which are whole points.
 fn add(
     pen: Pen,
     then: Place,
@@ -48,7 +50,7 @@ fn add(
     tags: &mut [u8],
     points: &mut [u32],
 ) -> Drew
-    requires { ⌜ n ≤ 8 ⌝ }
+    requires { ⌜ (n ≤ 8) × (n % 2 ≡ 0) ⌝ }
     ensures { λ r. ⌜ told r (now (tags .exit)) (now (points .exit))
         ≡ inked pen then (behind tag (take n words)) (now (tags .entry)) (now (points .entry)) ⌝ }
 {
@@ -257,7 +259,7 @@ fn segment(
     tags: &mut [u8],
     points: &mut [u32],
 ) -> Drew
-    requires { ⌜ n ≤ 6 ⌝ }
+    requires { ⌜ (n ≤ 6) × (n % 2 ≡ 0) ⌝ }
     ensures { λ r. ⌜ told r (now (tags .exit)) (now (points .exit)) ≡ drawnBy (pen .place .opened) pen tag (take n words) to (now (tags .entry)) (now (points .entry)) ⌝ }
 {
     let place = pen.place;

@@ -52,7 +52,7 @@ slice-write-tags : tie.Need-slice-write-tags
 slice-write-tags c = omega (arith, tag-fits c)
 
 put-words-requires : tie.Need-put-words-requires
-put-words-requires c κs = (omega arith, point-fits (c .before))
+put-words-requires c κs = (omega arith, omega arith, point-fits (c .before))
 
 add-t20 : tie.Need-add-t20
 add-t20 c = tag-count (c .before .before .before .before)
