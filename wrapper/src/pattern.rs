@@ -81,7 +81,13 @@ impl Pen {
         answered(ffi::pen_quad(&mut self.words, [by, to], tags, points))
     }
 
-    pub fn cubic_to(&mut self, by: [[f32; 2]; 2], to: [f32; 2], tags: &mut [u8], points: &mut [u32]) -> Result<(), Refused> {
+    pub fn cubic_to(
+        &mut self,
+        by: [[f32; 2]; 2],
+        to: [f32; 2],
+        tags: &mut [u8],
+        points: &mut [u32],
+    ) -> Result<(), Refused> {
         answered(ffi::pen_cubic(&mut self.words, [by[0], by[1], to], tags, points))
     }
 

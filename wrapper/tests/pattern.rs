@@ -78,7 +78,7 @@ fn a_refused_move_is_no_move() {
 
 #[test]
 fn a_made_up_pen_reads_and_writes_nothing_outside() {
-    for (opened, tags, points) in [(1, 9, 0), (1, 0, 9), (2, 0, 0), (2, u64::MAX, u64::MAX), (77, 1, u64::MAX)] {
+    for (opened, tags, points) in [(1, 9, 0), (1, 0, 9), (2, 3, 0), (2, u64::MAX, u64::MAX), (77, 1, u64::MAX)] {
         let mut pen = Pen::from_words([opened, 0, 0, 1, 1, tags, points]);
         let (before, mut b) = (pen, room(3, 3));
         assert_eq!(pen.line_to([1.0, 1.0], &mut b.tags, &mut b.points), Err(Refused::NoRoom));

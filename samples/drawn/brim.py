@@ -1,7 +1,7 @@
 #!/usr/bin/env python3
 """Draws the panel of a socket brim with its opening, and writes brim.sheet and its picture brim.svg here.
 
-In a checkout: PYTHONPATH=python python3 samples/brim.py. docs/DRAWING.md explains it.
+In a checkout: PYTHONPATH=python python3 samples/drawn/brim.py. docs/DRAWING.md explains it.
 """
 from hinthevoun import Sheet
 
