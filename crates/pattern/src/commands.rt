@@ -5,7 +5,8 @@ ghost use Prim.Native.Nat.{ℕ, _+_, _%_, _≤_};
 ghost use lib.Dec.{leb};
 ghost use lib.ListN.{length, take};
 ghost use lib.Seq.{sets};
-ghost use Rattle.pattern.specs.Commands.{pointOf, same, numbers, line, quad, cubic, move, draw, end, none, endBit, behind, finishing, ended, told, inked, commandOf};
+ghost use lib.Ieee.{eq};
+ghost use Rattle.pattern.specs.Commands.{same, numbers, line, quad, cubic, move, draw, end, none, endBit, behind, finishing, ended, told, inked, commandOf};
 ghost use Rattle.pattern.specs.Drawn.{drawnBy};
 use crate::pen::Answer;
 use crate::pen::Drew;
@@ -14,7 +15,6 @@ use crate::pen::Pen;
 use crate::pen::Place;
 use crate::pen::Spot;
 use scene::reading::is_finite;
-use spiral::util::Vec2;
 
 // Whether n more have room behind the first `at` of a list.
 fn has_room(length: usize, at: u64, n: usize) -> bool
@@ -130,17 +130,20 @@ fn keep(pen: Pen, then: Place) -> Drew
     }
 }
 
-fn point_of(p: Spot) -> Vec2
-    ensures { λ r. ⌜ r ≡ pointOf p ⌝ }
+// Equal as numbers: +0 equals -0, and a NaN equals nothing.
+fn is_equal(x: f32, y: f32) -> bool
+    ensures { λ r. ⌜ r ≡ eq x y ⌝ }
 {
-    Vec2::new(maths::float_of(p.x), maths::float_of(p.y))
+    x == y
 }
 
-// Equal as numbers: +0 equals -0.
 fn is_same(p: Spot, q: Spot) -> bool
     ensures { λ r. ⌜ r ≡ same p q ⌝ }
 {
-    point_of(p).eq(point_of(q))
+    if is_equal(maths::float_of(p.x), maths::float_of(q.x)) {
+        return is_equal(maths::float_of(p.y), maths::float_of(q.y));
+    }
+    false
 }
 
 // Whether none of the first n words is a NaN or an infinity.
