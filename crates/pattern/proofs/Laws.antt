@@ -11,13 +11,14 @@ use lib.Seq.{sets, take-suc, drop-cons, getD-take, take-append-le}
 use lib.Ieee.{binary32, ofBits}
 use lib.Ieee.Scale.{finite}
 use Rattle.scene.specs.Reading.{allFinite}
-use Rattle.pattern.specs.Commands.{same, wordsOf, floatsOf, numbers, finishing, ended, Ink, none, endBit, behind, fits, Outcome, outcome, counted, written, inked, end, move, mayDraw, placeOf, inkOf, named, commandOf}
-use Rattle.pattern.specs.Drawn.{drawnTo, drawnBy}
+use Rattle.pattern.specs.Commands.{same, numberOf, wordsOf, floatsOf, numbers, finishing, ended, Ink, none, endBit, behind, fits, Outcome, outcome, counted, written, inked, end, move, mayDraw, placeOf, inkOf, named, commandOf}
+use Rattle.pattern.specs.Drawn.{drawnTo, verdictOf, soundly, drawnBy}
 use Rattle.pattern.specs.declared.pen.Spot.{Spot}
 use Rattle.pattern.specs.declared.pen.Open.{Open}
 use Rattle.pattern.specs.declared.pen.Open.the-variants.{Nothing, Moved, Drawing}
 use Rattle.pattern.specs.declared.pen.Place.{Place}
 use Rattle.pattern.specs.declared.pen.Pen.{Pen}
+use Rattle.pattern.specs.declared.pen.Answer.{Answer}
 use Rattle.pattern.specs.declared.pen.Answer.the-variants.{Accepted, NoMove, NoRoom, NotFinite}
 
 -- ---- lists
@@ -80,6 +81,17 @@ second-not : (a b : Bool) → b ≡ false → a && b ≡ false
 second-not true b h = h
 second-not false b h = refl
 
+-- what is accepted is sound and has room
+pub accepts : (s t : Bool) (answer : Answer) → answer ≡ verdictOf s t → numberOf answer ≡ 0 → (s ≡ true) × (t ≡ true)
+unfolding verdictOf numberOf
+accepts false t answer e h = let z : _≡_ {A = ℕ} 22 0 = sym (ap numberOf e) ∙ h in absurd (omega arith)
+accepts true false answer e h = let z : _≡_ {A = ℕ} 21 0 = sym (ap numberOf e) ∙ h in absurd (omega arith)
+accepts true true answer e h = (refl, refl)
+
+pub both-true : (a b : Bool) → a && b ≡ true → (a ≡ true) × (b ≡ true)
+both-true true b h = (refl, h)
+both-true false b h = let z : _≡_ {A = ℕ} 0 1 = cc in absurd (omega arith)
+
 module _ (pen : Pen) (then : Place) (tags points : List ℕ) where
   refused : (ink : Ink) → fits pen ink tags points ≡ false → outcome NoRoom pen tags points ≡ inked pen then ink tags points
   unfolding inked
@@ -105,28 +117,38 @@ module _ (pen : Pen) (then : Place) (tags points : List ℕ) where
       rw e
       (stored endBit (both (leb 1 (pen .tags)) (leb (pen .tags) (length tags)) (le-leb 1 (pen .tags) (omega (arith, n))) (le-leb (pen .tags) (length tags) (omega (arith, n)))))
 
-  -- a tag and the first n of the words
+  -- a tag and the first n of the words: refused by the verdict, or written
   module _ (tag : ℕ) (ws : List ℕ) (n : ℕ) (l : n ≤ length ws) where
     size : length (take n ws) ≡ n
     size = length-take n ws ∙ omega arith
 
-    pub no-tag-room : leb (pen .tags + 1) (length tags) ≡ false → outcome NoRoom pen tags points ≡ inked pen then (behind tag (take n ws)) tags points
-    unfolding fits
-    no-tag-room e =
-        refused (behind tag (take n ws)) (first-not (leb (pen .tags + 1) (length tags)) (leb (pen .points + length (take n ws)) (length points)) e)
+    abbrev Room : Bool
+    Room = leb (pen .tags + 1) (length tags) && leb (pen .points + n) (length points)
 
-    pub no-point-room : leb (pen .points + n) (length points) ≡ false → outcome NoRoom pen tags points ≡ inked pen then (behind tag (take n ws)) tags points
-    unfolding fits
-    no-point-room e =
-        refused (behind tag (take n ws)) (second-not (leb (pen .tags + 1) (length tags)) (leb (pen .points + length (take n ws)) (length points)) (rw size e))
+    abbrev Spec : Bool → Outcome
+    Spec sound = soundly sound pen then (behind tag (take n ws)) tags points
 
-    pub added : (ps : List ℕ) → leb (pen .tags + 1) (length tags) ≡ true → leb (pen .points + n) (length points) ≡ true → ps ≡ sets points (pen .points) (take n ws)
-        → outcome Accepted (counted then (pen .tags + 1) (pen .points + n)) (set tags (pen .tags) tag) ps ≡ inked pen then (behind tag (take n ws)) tags points
-    unfolding fits written
-    added ps e f g =
-        rw g
+    by-room : (t : Bool) → Room ≡ t → fits pen (behind tag (take n ws)) tags points ≡ t
+    unfolding fits
+    by-room t e = ap (λ (m : ℕ). leb (pen .tags + 1) (length tags) && leb (pen .points + m) (length points)) size ∙ e
+
+    pub no-verdict : (sound : Bool) (answer : Answer) → answer ≡ verdictOf sound Room → (numberOf answer ≡ 0 → ⊥) → outcome answer pen tags points ≡ Spec sound
+    unfolding soundly verdictOf numberOf
+    no-verdict sound answer e h = go sound Room refl e
+      where
+        go : (s t : Bool) → Room ≡ t → answer ≡ verdictOf s t → outcome answer pen tags points ≡ Spec s
+        go false t f e = ap (λ (a : Answer). outcome a pen tags points) e
+        go true false f e = ap (λ (a : Answer). outcome a pen tags points) e ∙ refused (behind tag (take n ws)) (by-room false f)
+        go true true f e = absurd (h (ap numberOf e))
+
+    pub added : (sound : Bool) (answer : Answer) (ps : List ℕ) → answer ≡ verdictOf sound Room → numberOf answer ≡ 0 → ps ≡ sets points (pen .points) (take n ws)
+        → outcome answer (counted then (pen .tags + 1) (pen .points + n)) (set tags (pen .tags) tag) ps ≡ Spec sound
+    unfolding soundly written numberOf
+    added sound answer ps e h g =
+        let k = accepts sound Room answer e h in
+        rw (k .0, h, g)
         (ap (λ (m : ℕ). outcome Accepted (counted then (pen .tags + 1) (pen .points + m)) (set tags (pen .tags) tag) (sets points (pen .points) (take n ws))) (sym size)
-        ∙ stored (behind tag (take n ws)) (both (leb (pen .tags + 1) (length tags)) (leb (pen .points + length (take n ws)) (length points)) e (rw size f)))
+        ∙ stored (behind tag (take n ws)) (by-room true (k .1)))
 
 -- ---- a segment
 
@@ -147,30 +169,24 @@ module _ (pen : Pen) (tag : ℕ) (ws : List ℕ) (n : ℕ) (to : Spot) (tags poi
   unfolding drawnBy
   nothing-open e = here Nothing (outcome NoMove pen tags points) e refl
 
-  pub bad-moved : pen .place .opened ≡ Moved → numbers (take n ws) ≡ false → There (outcome NotFinite pen tags points)
-  unfolding drawnBy
-  bad-moved e f = here Moved (outcome NotFinite pen tags points) e (rw f)
+  abbrev Added : Bool → ℕ → List ℕ → Outcome → Type 0
+  Added sound m vs o = o ≡ soundly sound pen (drawnTo pen to) (behind tag (take m vs)) tags points
 
-  pub bad-drawing : pen .place .opened ≡ Drawing → numbers (take n ws) ≡ false → There (outcome NotFinite pen tags points)
-  unfolding drawnBy
-  bad-drawing e f = here Drawing (outcome NotFinite pen tags points) e (rw f)
+  -- what was added, by the words that were put together
+  by-words : (sound : Bool) (o : Outcome) (m : ℕ) (vs us : List ℕ) → sound ≡ numbers (take n ws) → take m vs ≡ us → Added sound m vs o
+      → o ≡ soundly (numbers (take n ws)) pen (drawnTo pen to) (behind tag us) tags points
+  by-words sound o m vs us e f h = h ∙ rw (e, f)
 
-  abbrev Added : ℕ → List ℕ → Outcome → Type 0
-  Added m vs o = o ≡ inked pen (drawnTo pen to) (behind tag (take m vs)) tags points
-
-  pub first-drawn : (o : Outcome) (vs : List ℕ) → pen .place .opened ≡ Moved → numbers (take n ws) ≡ true
-      → vs ≡ pen .place .first .x ∷ pen .place .first .y ∷ ws → Added (n + 2) vs o → There o
+  pub first-drawn : (sound : Bool) (o : Outcome) (vs : List ℕ) → pen .place .opened ≡ Moved → sound ≡ numbers (take n ws)
+      → vs ≡ pen .place .first .x ∷ pen .place .first .y ∷ ws → Added sound (n + 2) vs o → There o
   unfolding drawnBy
-  first-drawn o vs e f g h =
-      let two = two-first (pen .place .first .x) (pen .place .first .y) ws n in
-      here Moved o e (rw f (h ∙ ap (λ (xs : List ℕ). inked pen (drawnTo pen to) (behind tag xs) tags points) (ap (take (n + 2)) g ∙ two)))
+  first-drawn sound o vs e f g h =
+      here Moved o e (by-words sound o (n + 2) vs _ f (ap (take (n + 2)) g ∙ two-first (pen .place .first .x) (pen .place .first .y) ws n) h)
 
-  pub more-drawn : (o : Outcome) (vs : List ℕ) → n ≤ length ws → pen .place .opened ≡ Drawing → numbers (take n ws) ≡ true
-      → vs ≡ ws ++ (0 ∷ 0 ∷ []) → Added n vs o → There o
+  pub more-drawn : (sound : Bool) (o : Outcome) (vs : List ℕ) → n ≤ length ws → pen .place .opened ≡ Drawing → sound ≡ numbers (take n ws)
+      → vs ≡ ws ++ (0 ∷ 0 ∷ []) → Added sound n vs o → There o
   unfolding drawnBy
-  more-drawn o vs l e f g h =
-      let same = take-append-le n ws (0 ∷ 0 ∷ []) l in
-      here Drawing o e (rw f (h ∙ ap (λ (xs : List ℕ). inked pen (drawnTo pen to) (behind tag xs) tags points) (ap (take n) g ∙ same)))
+  more-drawn sound o vs l e f g h = here Drawing o e (by-words sound o n vs _ f (ap (take n) g ∙ take-append-le n ws (0 ∷ 0 ∷ []) l) h)
 
 -- ---- the end of a subpath
 

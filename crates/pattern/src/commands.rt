@@ -1,5 +1,6 @@
 // The five commands. Each looks at what it is given before it writes, 20, then 22, then 21, so that a refusal changes nothing.
 ghost use mathlib.Core.Path.{_≡_};
+ghost use mathlib.Core.Bool.{_&&_};
 ghost use mathlib.Core.List.{List, [], _∷_, _++_};
 ghost use Prim.Native.Nat.{ℕ, _+_, _%_, _≤_};
 ghost use lib.Dec.{leb};
@@ -7,7 +8,7 @@ ghost use lib.ListN.{length, take};
 ghost use lib.Seq.{sets};
 ghost use lib.Ieee.{eq};
 ghost use Rattle.pattern.specs.Commands.{same, numbers, line, quad, cubic, move, draw, end, none, endBit, behind, finishing, ended, told, inked, commandOf};
-ghost use Rattle.pattern.specs.Drawn.{drawnBy};
+ghost use Rattle.pattern.specs.Drawn.{verdictOf, soundly, drawnBy};
 use crate::pen::Answer;
 use crate::pen::Drew;
 use crate::pen::Open;
@@ -40,10 +41,35 @@ fn put_words(points: &mut [u32], at: usize, words: [u32; 8], n: usize)
     }
 }
 
-// One tag and the first n of the words, which are whole points.
+// Whether one tag and n words have room.
+fn have_room(tags: usize, at: u64, points: usize, from: u64, n: usize) -> bool
+    ensures { λ r. ⌜ r ≡ leb (at + 1) tags && leb (from + n) points ⌝ }
+{
+    if has_room(tags, at, 1) {
+        return has_room(points, from, n);
+    }
+    false
+}
+
+// 22 comes before 21.
+fn verdict(sound: bool, room: bool) -> Answer
+    ensures { λ r. ⌜ r ≡ verdictOf sound room ⌝ }
+{
+    if !sound {
+        return Answer::NotFinite;
+    }
+    if room {
+        Answer::Accepted
+    } else {
+        Answer::NoRoom
+    }
+}
+
+// One tag and the first n of the words, which are whole points, if what the command names is sound.
 fn add(
     pen: Pen,
     then: Place,
+    sound: bool,
     tag: u8,
     words: [u32; 8],
     n: usize,
@@ -52,26 +78,19 @@ fn add(
 ) -> Drew
     requires { ⌜ (n ≤ 8) × (n % 2 ≡ 0) ⌝ }
     ensures { λ r. ⌜ told r (now (tags .exit)) (now (points .exit))
-        ≡ inked pen then (behind tag (take n words)) (now (tags .entry)) (now (points .entry)) ⌝ }
+        ≡ soundly sound pen then (behind tag (take n words)) (now (tags .entry)) (now (points .entry)) ⌝ }
 {
     let at = pen.tags;
     let from = pen.points;
-    if !has_room(tags.len(), at, 1) {
-        return Drew {
-            answer: Answer::NoRoom,
-            pen,
-        };
-    }
-    if !has_room(points.len(), from, n) {
-        return Drew {
-            answer: Answer::NoRoom,
-            pen,
-        };
+    let room = have_room(tags.len(), at, points.len(), from, n);
+    let answer = verdict(sound, room);
+    if answer.number() != 0 {
+        return Drew { answer, pen };
     }
     tags[at as usize] = tag;
     put_words(points, from as usize, words, n);
     Drew {
-        answer: Answer::Accepted,
+        answer,
         pen: Pen {
             place: then,
             tags: at + 1,
@@ -179,6 +198,7 @@ fn finish(pen: Pen, then: Place, tags: &mut [u8], points: &mut [u32]) -> Drew
             add(
                 pen,
                 then,
+                true,
                 0x0d,
                 [first.x, first.y, 0, 0, 0, 0, 0, 0],
                 2,
@@ -273,28 +293,19 @@ fn segment(
         first,
         last: to,
     };
+    let sound = all_numbers(words, n);
     match open {
         Open::Nothing => Drew {
             answer: Answer::NoMove,
             pen,
         },
         Open::Moved => {
-            if !all_numbers(words, n) {
-                return Drew {
-                    answer: Answer::NotFinite,
-                    pen,
-                };
-            }
-            add(pen, then, tag, started(first, words), n + 2, tags, points)
+            let whole = started(first, words);
+            add(pen, then, sound, tag, whole, n + 2, tags, points)
         }
         Open::Drawing => {
-            if !all_numbers(words, n) {
-                return Drew {
-                    answer: Answer::NotFinite,
-                    pen,
-                };
-            }
-            add(pen, then, tag, alone(words), n, tags, points)
+            let whole = alone(words);
+            add(pen, then, sound, tag, whole, n, tags, points)
         }
     }
 }

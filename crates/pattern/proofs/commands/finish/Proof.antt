@@ -3,6 +3,7 @@ use mathlib.Core.Path.{_≡_, sym, ap, _∙_}
 use denote.Ref.{now}
 use borrow.Author.Needs.{needs}
 use Rattle.pattern.specs.Commands.{wordsOf}
+use Rattle.pattern.specs.Drawn.{soundly}
 use Rattle.pattern.proofs.Laws.{nothing-due, move-due, end-due, line-due}
 use Rattle.pattern.proofs.commands.finish.Statement.{statement}
 use Rattle.pattern.proofs.commands.finish.Tie as tie
@@ -26,7 +27,7 @@ returns-3 c =
     move-due (a .pen) (a .then) (now (a .tags)) (now (a .points)) _ (c .before .enum-told2 .given .1) (c .keep2 .ensures (now (a .tags)) (now (a .points)))
 
 returns-4 : tie.Need-returns-4
-unfolding wordsOf
+unfolding wordsOf soundly
 returns-4 c =
     let d = c .before .before .before .before in
     let e = d .before .before .before in
