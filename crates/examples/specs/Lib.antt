@@ -1,2 +1,3 @@
 pub mod Table
 pub mod Triangle
+pub mod Drawn

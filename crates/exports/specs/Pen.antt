@@ -1,7 +1,6 @@
 -- The commands as C sees them: a pen of seven words, coordinates as f32, a number out, and three lists. Definitions only.
 use Prim.Native.Nat.{ℕ, zero, suc, _+_, _%_, _^_}
-use mathlib.Core.Path.{_≡_}
-use mathlib.Core.Bool.{Bool, true, false, cond}
+use mathlib.Core.Bool.{cond}
 use mathlib.Core.List.{List, [], _∷_}
 use lib.Dec.{ltb}
 use lib.ListN.{length, getD}
@@ -13,7 +12,6 @@ use Rattle.pattern.specs.declared.pen.Open.{Open}
 use Rattle.pattern.specs.declared.pen.Open.the-variants.{Nothing, Moved, Drawing}
 use Rattle.pattern.specs.declared.pen.Pen.{Pen}
 use Rattle.pattern.specs.declared.pen.Answer.the-variants.{NoRoom}
-use Rattle.pattern.specs.declared.pen.Drew.{Drew}
 
 -- ---- the pen
 

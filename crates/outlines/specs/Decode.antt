@@ -1,19 +1,19 @@
 -- Decoding what commands wrote gives back the segments that they mean, in order and bit for bit. Assumes nothing.
-use Prim.Native.Nat.{ℕ, zero, suc, _+_, _-_, _*_, _/_, _%_, _^_, _<_, _≤_, min}
+use Prim.Native.Nat.{ℕ, zero, suc, _+_, _-_, _%_, _^_, _<_, _≤_}
 use mathlib.Core.Path.{_≡_, refl, sym, ap, _∙_, subst}
 use mathlib.Core.Bool.{Bool, true, false, _&&_, cond}
-use mathlib.Core.List.{List, [], _∷_, _++_, append-assoc, append-nil}
+use mathlib.Core.List.{List, [], _∷_, _++_, append-assoc}
 use native.Mathlib.Omega.{arith}
-use lib.Dec.{eqb, ltb, leb}
-use lib.ListN.{length, getD, take, drop, length-take, length-drop, length-append}
+use lib.Dec.{eqb}
+use lib.ListN.{length, take, drop, length-take, length-drop, length-append}
 use lib.Seq.{take-at}
 use borrow.Author.Tests.{lt-ltb, le-leb}
-use Rattle.refusals.specs.Refusals.{Read, found, refused}
+use Rattle.refusals.specs.Refusals.{Read, found}
 use Rattle.scene.specs.Tags.{bit, tagData}
 use Rattle.scene.specs.Tags as tags
 use Rattle.scene.specs.Reading.{wide, pointWords, pointCount, reaches, segmentOf}
-use Rattle.scene.specs.Fresh.{byteOf, sumsTo, Fresh}
-use Rattle.scene.specs.FreshLaws.{sumsAt, Inside, sums-at, roomy-tag}
+use Rattle.scene.specs.Fresh.{byteOf, sumsTo}
+use Rattle.scene.specs.FreshLaws.{sums-at, roomy-tag}
 use Rattle.scene.specs.declared.tags.PathMonoid.{PathMonoid}
 use Rattle.scene.specs.declared.tags.PathTagData.{PathTagData}
 use Rattle.pattern.specs.Commands.{wordsOf, Segment, line, quad, cubic, spots, target, tagOf, Command}
@@ -22,7 +22,7 @@ use Rattle.pattern.specs.Closed.{all-closed}
 use Rattle.pattern.specs.Encoded.{Holds, encoded}
 use Rattle.pattern.specs.declared.pen.Spot.{Spot}
 use Rattle.watertight.specs.Fill.{Call}
-use Rattle.outlines.specs.Placing.{left, subpaths, Finished, drawnTags, drawnPoints, tagWords, FreshCall, Here, Few, Placed, Lent, Piece, piece, spotsAt, segmentBy, decoded, piecesFrom, pieces}
+use Rattle.outlines.specs.Placing.{left, subpaths, Finished, drawnTags, tagWords, FreshCall, Here, Few, Placed, Lent, Piece, piece, spotsAt, segmentBy, decoded, piecesFrom, pieces}
 use Rattle.outlines.specs.Walk.{tagByte, Drawn, Walk, Walks, Behind, walks, under-self}
 
 -- ---- a byte

@@ -1,5 +1,5 @@
 -- From commands to lines: each subpath that they mean is a closed run, so that an accepted call on it is watertight. Assumes nothing.
-use Prim.Native.Nat.{ℕ, zero, suc, _+_, _-_, _*_, _%_, _^_, _<_, _≤_}
+use Prim.Native.Nat.{ℕ, suc, _+_, _-_, _*_, _%_, _^_, _<_, _≤_}
 use mathlib.Core.Path.{_≡_, refl, sym, ap, _∙_, subst}
 use mathlib.Core.Bool.{Bool, true, false, _&&_, cond}
 use mathlib.Core.List.{List, [], _∷_, _++_}
@@ -9,17 +9,14 @@ use lib.ListN.{length, getD, take, drop, length-append}
 use lib.Seq.{getD-take, getD-drop}
 use Rattle.refusals.specs.Refusals.{Read, found, refused}
 use Rattle.refusals.specs.declared.Refusal.the-variants.{NoBox}
-use Rattle.spiral.specs.Util.{eqOf}
-use Rattle.spiral.specs.declared.util.Vec2.{Vec2}
 use Rattle.scene.specs.Tags.{bit, tagData}
-use Rattle.scene.specs.Reading.{f32Point, pointWords, pointAt, wide, flagsOf}
+use Rattle.scene.specs.Reading.{f32Point, pointWords, pointAt, flagsOf}
 use Rattle.scene.specs.Fresh.{byteOf, sumsTo}
 use Rattle.scene.specs.FreshLaws.{sums-at, fresh-tag}
-use Rattle.scene.specs.declared.tags.PathMonoid.{PathMonoid}
 use Rattle.scene.specs.declared.tags.PathTagData.{PathTagData}
-use Rattle.flatten.specs.Tag.{_>>=_, isPath, boxed, headAt, isStroke}
+use Rattle.flatten.specs.Tag.{_>>=_, isPath, boxed, headAt}
 use Rattle.flatten.specs.declared.tag.Head.{Head}
-use Rattle.pattern.specs.Commands.{same, wordsOf, floatsOf, numbers, Segment, line, quad, cubic, spots, target, Command}
+use Rattle.pattern.specs.Commands.{same, wordsOf, numbers, Segment, line, quad, cubic, spots, target, Command}
 use Rattle.pattern.specs.Commands as commands
 use Rattle.pattern.specs.Meaning.{Subpath, endOf, allSpots, segmentTags, tagsOf}
 use Rattle.pattern.specs.Encoded.{words-append, encoded}
@@ -27,7 +24,7 @@ use Rattle.pattern.specs.Every.{Every, none, more}
 use Rattle.pattern.specs.Closed.{same-self, all-closed, numbers-append, numbers-parts}
 use Rattle.pattern.specs.Closed as closed
 use Rattle.pattern.specs.declared.pen.Spot.{Spot}
-use Rattle.watertight.specs.Fill.{Call, Accepted, tags, readHead, headOf, pointOf, firstOf, lastOf, typeOf, transformWords, Filled, Each, Meets, Follows, final}
+use Rattle.watertight.specs.Fill.{Call, Accepted, tags, headOf, pointOf, firstOf, lastOf, typeOf, Filled, Each, Meets, Follows, final}
 use Rattle.watertight.specs.Fill as fills
 use Rattle.watertight.specs.Accepted.{done}
 use Rattle.watertight.specs.Watertight.{watertight, watertight-stored}

@@ -1,8 +1,7 @@
 -- Where a caller puts the tags of his own: a transform tag and a style tag, then what commands wrote, then a path tag. Assumes nothing.
-use Prim.Native.Nat.{ℕ, _+_}
-use mathlib.Core.Path.{_≡_, refl, ap, _∙_}
+use mathlib.Core.Path.{_≡_}
 use native.Mathlib.Omega.{arith}
-use Rattle.scene.specs.Tags.{sums, tagSums, plus}
+use Rattle.scene.specs.Tags.{tagSums, plus}
 use Rattle.scene.specs.Fresh.{byteOf, sumsTo}
 use Rattle.watertight.specs.Fill.{Call}
 use Rattle.outlines.specs.Placing.{tagWords, dataAt, transformAt, styleAt}

@@ -1,16 +1,14 @@
 -- The tags and the data of subpaths, tag by tag: each tag has its byte, its points, and the transform and the style of the first. Assumes nothing.
-use Prim.Native.Nat.{ℕ, zero, suc, _+_, _-_, _*_, _/_, _%_, _^_, _<_, _≤_}
+use Prim.Native.Nat.{ℕ, zero, suc, _+_, _-_, _^_, _<_}
 use mathlib.Core.Path.{_≡_, refl, sym, ap, _∙_, subst}
-use mathlib.Core.Bool.{Bool, true, false, cond}
+use mathlib.Core.Bool.{Bool, true, false}
 use mathlib.Core.List.{List, [], _∷_, _++_, append-assoc, append-nil}
 use native.Mathlib.Omega.{arith}
-use lib.Dec.{eqb}
-use lib.ListN.{length, getD, take, drop, length-append}
+use lib.ListN.{length, take, drop, length-append}
 use lib.Seq.{take-at, drop-at, drop-drop}
 use lib.ListN.{take-append-drop}
-use Rattle.scene.specs.Tags.{bit, sums, tagSums, plus}
+use Rattle.scene.specs.Tags.{tagSums, plus}
 use Rattle.scene.specs.Fresh.{byteOf, sumsTo}
-use Rattle.scene.specs.declared.tags.PathMonoid.{PathMonoid}
 use Rattle.pattern.specs.Commands.{wordsOf, Segment, line, quad, cubic, spots, target, tagOf}
 use Rattle.pattern.specs.Meaning.{Subpath, segmentTags, allSpots, tagsOf, pointsOf}
 use Rattle.pattern.specs.Encoded.{words-append}

@@ -1,7 +1,7 @@
 -- What the proofs of the commands share: lists of words, the test of their numbers, and the answers by their tests. Assumes nothing.
-use Prim.Native.Nat.{ℕ, zero, suc, _+_, _-_, _<_, _≤_}
+use Prim.Native.Nat.{ℕ, suc, _+_, _-_, _<_, _≤_}
 use mathlib.Core.Path.{_≡_, refl, sym, ap, _∙_}
-use mathlib.Core.Bool.{Bool, true, false, not, _&&_, cond}
+use mathlib.Core.Bool.{Bool, true, false, not, _&&_}
 use mathlib.Core.List.{List, [], _∷_, _++_}
 use native.Mathlib.Omega.{arith}
 use lib.Dec.{leb}
@@ -87,10 +87,6 @@ unfolding verdictOf numberOf
 accepts false t answer e h = let z : _≡_ {A = ℕ} 22 0 = sym (ap numberOf e) ∙ h in absurd (omega arith)
 accepts true false answer e h = let z : _≡_ {A = ℕ} 21 0 = sym (ap numberOf e) ∙ h in absurd (omega arith)
 accepts true true answer e h = (refl, refl)
-
-pub both-true : (a b : Bool) → a && b ≡ true → (a ≡ true) × (b ≡ true)
-both-true true b h = (refl, h)
-both-true false b h = let z : _≡_ {A = ℕ} 0 1 = cc in absurd (omega arith)
 
 module _ (pen : Pen) (then : Place) (tags points : List ℕ) where
   refused : (ink : Ink) → fits pen ink tags points ≡ false → outcome NoRoom pen tags points ≡ inked pen then ink tags points

@@ -1,10 +1,10 @@
 -- What accepted commands mean are subpaths of numbers that end where they started. Assumes nothing.
-use Prim.Native.Nat.{ℕ, suc}
+use Prim.Native.Nat.{ℕ}
 use mathlib.Core.Path.{_≡_, refl, sym, ap, _∙_, subst}
-use mathlib.Core.Bool.{Bool, true, false, not, _&&_, _||_, cond}
+use mathlib.Core.Bool.{Bool, true, false, _&&_, cond}
 use mathlib.Core.List.{List, [], _∷_, _++_, append-nil}
 use native.Mathlib.Omega.{arith}
-use lib.Dec.{T, eqb}
+use lib.Dec.{eqb}
 use lib.Ieee.{Float, nan, inf, fin, binary32, ofBits, isNan}
 use lib.Ieee.Bits.{is-true}
 use lib.Ieee.Scale.{finite}
@@ -13,9 +13,9 @@ use Rattle.spiral.specs.Util.{hasNan}
 use Rattle.spiral.specs.Points.{same-point→eq}
 use Rattle.scene.specs.Reading.{allFinite}
 use Rattle.pattern.specs.Every.{Every, none, more}
-use Rattle.pattern.specs.Commands.{pointOf, same, wordsOf, floatsOf, numbers, Segment, line, spots, target, Command, move, draw, end, inkOf, placeOf, Outcome, outcome, written, named}
-use Rattle.pattern.specs.Meaning.{Subpath, subpath, endOf, closing, Unfinished, nothing, begun, finishedBy, finished, goesOn, meant, allSpots, fresh, next, after, kept, accepted}
-use Rattle.pattern.specs.Encoded.{words-append, spots-append, spots-more, end-more, by-answer}
+use Rattle.pattern.specs.Commands.{pointOf, same, wordsOf, floatsOf, numbers, Segment, line, spots, target, Command, move, draw, end, Outcome, named}
+use Rattle.pattern.specs.Meaning.{Subpath, subpath, endOf, closing, Unfinished, nothing, begun, finishedBy, finished, goesOn, meant, allSpots, fresh, next, kept, accepted}
+use Rattle.pattern.specs.Encoded.{both-true, spots-more, end-more, by-answer}
 use Rattle.pattern.specs.declared.pen.Spot.{Spot}
 
 every-append : {A : Type 0} {P : A → Type 0} {xs ys : List A} → Every P xs → Every P ys → Every P (xs ++ ys)
@@ -32,22 +32,18 @@ pub record Closed (s : Subpath) : Type 0 where
 
 -- ---- numbers
 
-both : (a b : Bool) → a && b ≡ true → (a ≡ true) × (b ≡ true)
-both true b h = (refl, h)
-both false b h = let z : _≡_ {A = ℕ} 0 1 = cc in absurd (omega arith)
-
 pub numbers-append : (xs ys : List ℕ) → numbers xs ≡ true → numbers ys ≡ true → numbers (xs ++ ys) ≡ true
 unfolding floatsOf allFinite
 numbers-append [] ys h k = k
 numbers-append (x ∷ xs) ys h k =
-    let b = both (finite (ofBits binary32 x)) (numbers xs) h in
+    let b = both-true (finite (ofBits binary32 x)) (numbers xs) h in
     rw (b .0) (numbers-append xs ys (b .1) k)
 
 pub numbers-parts : (xs ys : List ℕ) → numbers (xs ++ ys) ≡ true → (numbers xs ≡ true) × (numbers ys ≡ true)
 unfolding floatsOf allFinite
 numbers-parts [] ys h = (refl, h)
 numbers-parts (x ∷ xs) ys h =
-    let b = both (finite (ofBits binary32 x)) (numbers (xs ++ ys)) h in
+    let b = both-true (finite (ofBits binary32 x)) (numbers (xs ++ ys)) h in
     let k = numbers-parts xs ys (b .1) in
     (rw (b .0) (k .0), k .1)
 
@@ -61,8 +57,8 @@ finite-not-nan (fin s m e) h = refl
 pub same-self : (p : Spot) → numbers (wordsOf (p ∷ [])) ≡ true → same p p ≡ true
 unfolding same wordsOf floatsOf allFinite hasNan
 same-self p h =
-    let b = both (finite (ofBits binary32 (p .x))) (finite (ofBits binary32 (p .y)) && true) h in
-    let c = both (finite (ofBits binary32 (p .y))) true (b .1) in
+    let b = both-true (finite (ofBits binary32 (p .x))) (finite (ofBits binary32 (p .y)) && true) h in
+    let c = both-true (finite (ofBits binary32 (p .y))) true (b .1) in
     is-true _ (same-point→eq (pointOf p) (pointOf p) (rw (finite-not-nan _ (b .0), finite-not-nan _ (c .0)) tt) (same-refl _, same-refl _))
 
 -- ---- what is open, and what finishes it

@@ -1,5 +1,5 @@
 -- The buffers hold the encoding of what the accepted commands mean, whatever was refused between them. Assumes nothing.
-use Prim.Native.Nat.{ℕ, zero, suc, _+_, _-_, _<_, _≤_}
+use Prim.Native.Nat.{ℕ, _+_, _-_, _≤_}
 use mathlib.Core.Path.{_≡_, refl, sym, ap, _∙_, subst}
 use mathlib.Core.Bool.{Bool, true, false, _&&_, cond}
 use mathlib.Core.List.{List, [], _∷_, _++_, map, append-assoc, append-nil}
@@ -9,14 +9,18 @@ use lib.ListN.{length, getD, set, take, drop, length-append, length-drop}
 use lib.Seq.{sets, sets-eq, take-at, drop-at, drop-drop, getD-at, set-at}
 use borrow.Author.Tests.{leb-true}
 use Rattle.pattern.specs.Commands.{same, wordsOf, numbers, Segment, line, quad, cubic, spots, target, tagOf, Command, move, draw, end, Ink, none, endBit, behind, finishing, startOf, inkOf, placeOf, ended, fits, numberOf, Outcome, outcome, written, inked, mayDraw, named, commandOf}
-use Rattle.pattern.specs.Meaning.{Subpath, subpath, endOf, closing, Unfinished, nothing, begun, finishedBy, finished, goesOn, meant, segmentTags, allSpots, tagsOf, pointsOf, freshPen, fresh, next, after, kept, accepted}
+use Rattle.pattern.specs.Meaning.{Subpath, subpath, endOf, closing, Unfinished, nothing, begun, finishedBy, finished, goesOn, meant, segmentTags, allSpots, tagsOf, pointsOf, fresh, after, kept, accepted}
 use Rattle.pattern.specs.declared.pen.Spot.{Spot}
 use Rattle.pattern.specs.declared.pen.Open.{Open}
 use Rattle.pattern.specs.declared.pen.Open.the-variants.{Nothing, Moved, Drawing}
 use Rattle.pattern.specs.declared.pen.Place.{Place}
 use Rattle.pattern.specs.declared.pen.Pen.{Pen}
 use Rattle.pattern.specs.declared.pen.Answer.{Answer}
-use Rattle.pattern.specs.declared.pen.Answer.the-variants.{Accepted, NoMove, NoRoom, NotFinite}
+use Rattle.pattern.specs.declared.pen.Answer.the-variants.{NoMove, NoRoom, NotFinite}
+
+pub both-true : (a b : Bool) → a && b ≡ true → (a ≡ true) × (b ≡ true)
+both-true true b h = (refl, h)
+both-true false b h = let z : _≡_ {A = ℕ} 0 1 = cc in absurd (omega arith)
 
 -- ---- a buffer whose first words are written
 
@@ -206,10 +210,6 @@ module _ (lent lent' : List ℕ) where
   both-more W Z o then tag ws b e =
       let k = both-true (leb (o .pen .tags + 1) (length (o .tags))) (leb (o .pen .points + length ws) (length (o .points))) e in
       record { tags = holds-more (b .tags) (tag ∷ []) (leb-true _ _ (k .0)); points = holds-more (b .points) ws (leb-true _ _ (k .1)) }
-    where
-      both-true : (s t : Bool) → s && t ≡ true → (s ≡ true) × (t ≡ true)
-      both-true true t h = (refl, h)
-      both-true false t h = let z : _≡_ {A = ℕ} 0 1 = cc in absurd (omega arith)
 
   -- ---- a move and an end finish what is open
 

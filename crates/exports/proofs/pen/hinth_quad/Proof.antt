@@ -1,5 +1,4 @@
 -- `exports::pen::hinth_quad` meets its contract. Assumes nothing.
-use mathlib.Core.Path.{refl}
 use denote.Ref.{now}
 use borrow.Author.Needs.{needs}
 use Rattle.pattern.specs.Commands.{quad, draw}

@@ -1,7 +1,6 @@
 -- `exports::pen::open_of` meets its contract. Assumes nothing.
 use Prim.Native.Nat.{ℕ, zero, suc}
 use mathlib.Core.Path.{_≡_, refl, sym, ap}
-use native.Mathlib.Omega.{arith}
 use Rattle.pattern.specs.declared.pen.Open.the-variants.{Drawing}
 use Rattle.exports.specs.Pen.{openOf}
 use Rattle.exports.proofs.pen.open_of.Statement.{statement}

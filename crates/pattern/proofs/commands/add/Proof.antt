@@ -12,7 +12,8 @@ use lib.Dec.{leb}
 use lib.ListN.{length}
 use Rattle.pattern.specs.Commands.{numberOf}
 use Rattle.pattern.specs.Drawn.{verdictOf}
-use Rattle.pattern.proofs.Laws.{accepts, both-true, no-verdict, added}
+use Rattle.pattern.specs.Encoded.{both-true}
+use Rattle.pattern.proofs.Laws.{accepts, no-verdict, added}
 use Rattle.pattern.proofs.commands.add.Statement.{statement}
 use Rattle.pattern.proofs.commands.add.Tie as tie
 

@@ -1,5 +1,5 @@
 -- `pattern::commands::finish` meets its contract. Assumes nothing.
-use mathlib.Core.Path.{_≡_, sym, ap, _∙_}
+use mathlib.Core.Path.{sym, _∙_}
 use denote.Ref.{now}
 use borrow.Author.Needs.{needs}
 use Rattle.pattern.specs.Commands.{wordsOf}

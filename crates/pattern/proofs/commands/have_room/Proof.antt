@@ -1,5 +1,5 @@
 -- `pattern::commands::have_room` meets its contract. Assumes nothing.
-use mathlib.Core.Path.{_≡_, sym, _∙_}
+use mathlib.Core.Path.{sym, _∙_}
 use borrow.Author.Needs.{needs}
 use Rattle.pattern.proofs.commands.have_room.Statement.{statement}
 use Rattle.pattern.proofs.commands.have_room.Tie as tie

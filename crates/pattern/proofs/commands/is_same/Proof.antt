@@ -1,6 +1,6 @@
 -- `pattern::commands::is_same` meets its contract. Assumes nothing.
-use mathlib.Core.Path.{_≡_, refl, sym, ap, _∙_}
-use mathlib.Core.Bool.{Bool, true, false, _&&_}
+use mathlib.Core.Path.{_≡_, sym, _∙_}
+use mathlib.Core.Bool.{Bool, true, false}
 use lib.Ieee.{Float, binary32, ofBits, eq}
 use Rattle.spiral.specs.Util.{eqOf}
 use Rattle.pattern.specs.Commands.{same}

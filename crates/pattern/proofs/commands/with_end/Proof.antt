@@ -1,5 +1,4 @@
 -- `pattern::commands::with_end` meets its contract. Assumes nothing.
-use mathlib.Core.Path.{refl}
 use borrow.Author.Needs.{needs}
 use borrow.Author.Tests.{eq-eqb, ne-eqb}
 use Rattle.pattern.specs.Commands.{ended}
