@@ -7,7 +7,6 @@ use native.Mathlib.Omega.{arith}
 use lib.Dec.{lit<}
 use lib.ListN.{replicate, getD}
 use lib.Ieee.{ofBits, ofInt, toBits, toSigned, toUnsigned, round, neg, add, sub, mul, div, lt, le, eq, isNan}
-use lib.Ieee.Scale.{finite}
 use Rattle.numbers.specs.Words.{signOf, signed, absOf}
 use Rattle.numbers.specs.Select.{before, maxOf, clampOf}
 use Rattle.numbers.specs.Whole.{wholeOf, floorOf, ceilOf}
@@ -66,11 +65,11 @@ its-left = left its-tags its-points its-commands
 
 -- refused with 20, and three tags and eight words are written
 pub is-left : (its-left .number ≡ 20) × (its-left .tags ≡ 0x09 ∷ 0x09 ∷ 0x0d ∷ []) × (its-left .points ≡ 0 ∷ 0 ∷ 0x40400000 ∷ 0 ∷ 0 ∷ 0x40c00000 ∷ 0 ∷ 0 ∷ [])
-unfolding its-left commands.same commands.wordsOf commands.floatsOf commands.spots commands.target commands.tagOf commands.finishing commands.startOf commands.inkOf commands.placeOf commands.ended commands.fits commands.numberOf commands.written commands.inked commands.mayDraw commands.named commands.commandOf meaning.after eqOf eq ofBits round finite allFinite
+unfolding its-left commands.same commands.wordsOf commands.floatsOf commands.spots commands.target commands.tagOf commands.finishing commands.startOf commands.inkOf commands.placeOf commands.ended commands.fits commands.numberOf commands.written commands.inked commands.mayDraw commands.named commands.commandOf meaning.after eqOf eq ofBits round allFinite
 is-left = (refl, refl, refl)
 
 pub its-end : Finished its-left
-unfolding its-left commands.same commands.wordsOf commands.floatsOf commands.spots commands.target commands.tagOf commands.finishing commands.startOf commands.inkOf commands.placeOf commands.ended commands.fits commands.numberOf commands.written commands.inked commands.mayDraw commands.named commands.commandOf meaning.after eqOf eq ofBits round finite allFinite
+unfolding its-left commands.same commands.wordsOf commands.floatsOf commands.spots commands.target commands.tagOf commands.finishing commands.startOf commands.inkOf commands.placeOf commands.ended commands.fits commands.numberOf commands.written commands.inked commands.mayDraw commands.named commands.commandOf meaning.after eqOf eq ofBits round allFinite
 its-end = refl
 
 -- ---- the call: a transform tag and a style tag in front, a path tag behind
@@ -92,7 +91,7 @@ its-call =
 
 -- it is accepted, and stores the lines and the box of the triangle
 pub its-outcome : outcome its-call ≡ drawn
-unfolding its-call flatten ofBits ofInt toBits toSigned toUnsigned round neg add sub mul div lt le eq isNan finite signOf signed absOf before maxOf clampOf wholeOf floorOf ceilOf sqrtOf twoThirdsOf hypotOf trig.boundedOf trig.sinNear trig.cosNear trig.reducedOf trig.curveOf trig.waveOf trig.sinOf trig.cosOf trig.angleOf trig.atan2Of addOf subOf mulOf dotOf lengthOf lengthSquaredOf mixOf angleOf hasNan eqOf identityOf applyOf fittedError errorRatio longChord fromPointsDerivs fromAngles wordAt tagSums plus byteAt sumsBelow wordSums tagData prefixAt withPrefix tagIn tagOf sumsBefore prefixes filled scanOf f32Point pointWords pointAt lineCubic pointCount raised cubicOf reaches segmentOf floatsAt transformOf allFinite flagsOf lowerOf higherOf emptyBox boxWith hasRoom stored drawOn draw drawAll cubicPoint cubicDeriv cubicAt isShort firstTip tipAt paramsOf multiplierOf integrandOf robustOf nFracOf fitOf lineOf linesOf rangeOf rangeEnd tipOf isNear accepted walk isPoint sideEvents deviceSide eulerEvents fillEvents shapeEvents freshBox hasExtent markedOf mergedOf changedOf changedAt _>>=_ boxed headAt finiteOnly shapeAt eventsBy eventsAt drawnOf changeOf turnOf refusedAt stepFromBy stepBy firstTurn startOf taken onwardBy afterBy answerOf numberOf endOf toldOf callBy
+unfolding its-call flatten ofBits ofInt toBits toSigned toUnsigned round neg add sub mul div lt le eq isNan signOf signed absOf before maxOf clampOf wholeOf floorOf ceilOf sqrtOf twoThirdsOf hypotOf trig.boundedOf trig.sinNear trig.cosNear trig.reducedOf trig.curveOf trig.waveOf trig.sinOf trig.cosOf trig.angleOf trig.atan2Of addOf subOf mulOf dotOf lengthOf lengthSquaredOf mixOf angleOf hasNan eqOf identityOf applyOf fittedError errorRatio longChord fromPointsDerivs fromAngles wordAt tagSums plus byteAt sumsBelow wordSums tagData prefixAt withPrefix tagIn tagOf sumsBefore prefixes filled scanOf f32Point pointWords pointAt lineCubic pointCount raised cubicOf reaches segmentOf floatsAt transformOf allFinite flagsOf lowerOf higherOf emptyBox boxWith hasRoom stored drawOn draw drawAll cubicPoint cubicDeriv cubicAt isShort firstTip tipAt paramsOf multiplierOf integrandOf robustOf nFracOf fitOf lineOf linesOf rangeOf rangeEnd tipOf isNear accepted walk isPoint sideEvents deviceSide eulerEvents fillEvents shapeEvents freshBox hasExtent markedOf mergedOf changedOf changedAt _>>=_ boxed headAt finiteOnly shapeAt eventsBy eventsAt drawnOf changeOf turnOf refusedAt stepFromBy stepBy firstTurn startOf taken onwardBy afterBy answerOf numberOf endOf toldOf callBy
 its-outcome = refl
 
 pub its-acceptance : Accepted its-call
@@ -102,7 +101,7 @@ its-acceptance = record { u32 = lit< tt; count = 3; answer = ap (λ (o : Outcome
 -- ---- what the theorems ask
 
 pub is-placed : Placed its-call 2 its-left
-unfolding its-call its-left byteOf byteAt sumsTo plus tagSums commands.same commands.wordsOf commands.floatsOf commands.spots commands.target commands.tagOf commands.finishing commands.startOf commands.inkOf commands.placeOf commands.ended commands.fits commands.numberOf commands.written commands.inked commands.mayDraw commands.named commands.commandOf meaning.after eqOf eq ofBits round finite allFinite
+unfolding its-call its-left byteOf byteAt sumsTo plus tagSums commands.same commands.wordsOf commands.floatsOf commands.spots commands.target commands.tagOf commands.finishing commands.startOf commands.inkOf commands.placeOf commands.ended commands.fits commands.numberOf commands.written commands.inked commands.mayDraw commands.named commands.commandOf meaning.after eqOf eq ofBits round allFinite
 is-placed = record { here = record { byte = bytes; its-data = refl }; few = lit< tt }
   where
     bytes : (j : ℕ) → j < 3 → byteOf its-scene (2 + j) ≡ getD (0x09 ∷ 0x09 ∷ 0x0d ∷ []) j 0
@@ -122,11 +121,11 @@ is-filled = record { flags = 0; read = refl; no-stroke = refl }
 -- ---- the theorems, applied
 
 pub its-outline : Every (Watertight its-call) ((2 ∷ 3 ∷ 4 ∷ []) ∷ [])
-unfolding its-left its-call outlines tagsFrom meaning.meant meaning.accepted meaning.kept meaning.finished meaning.finishedBy meaning.closing meaning.endOf meaning.goesOn commands.same commands.wordsOf commands.floatsOf commands.spots commands.target commands.tagOf commands.finishing commands.startOf commands.inkOf commands.placeOf commands.ended commands.fits commands.numberOf commands.written commands.inked commands.mayDraw commands.named commands.commandOf meaning.after eqOf eq ofBits round finite allFinite
+unfolding its-left its-call outlines tagsFrom meaning.meant meaning.accepted meaning.kept meaning.finished meaning.finishedBy meaning.closing meaning.endOf meaning.goesOn commands.same commands.wordsOf commands.floatsOf commands.spots commands.target commands.tagOf commands.finishing commands.startOf commands.inkOf commands.placeOf commands.ended commands.fits commands.numberOf commands.written commands.inked commands.mayDraw commands.named commands.commandOf meaning.after eqOf eq ofBits round allFinite
 its-outline = drawn-watertight its-tags its-points its-commands its-end its-call 2 is-placed its-acceptance is-fresh is-filled (omega arith)
 
 -- three lines, the last of which closes it and ends the subpath
 pub its-pieces : decoded its-call 2 3
     ≡ piece (at 0 0 ∷ at 0x40400000 0 ∷ []) false ∷ piece (at 0x40400000 0 ∷ at 0 0x40c00000 ∷ []) false ∷ piece (at 0 0x40c00000 ∷ at 0 0 ∷ []) true ∷ []
-unfolding is-fresh its-left its-call pieces piecesFrom meaning.meant meaning.accepted meaning.kept meaning.finished meaning.finishedBy meaning.closing meaning.endOf meaning.goesOn commands.same commands.wordsOf commands.floatsOf commands.spots commands.target commands.tagOf commands.finishing commands.startOf commands.inkOf commands.placeOf commands.ended commands.fits commands.numberOf commands.written commands.inked commands.mayDraw commands.named commands.commandOf meaning.after eqOf eq ofBits round finite allFinite
+unfolding is-fresh its-left its-call pieces piecesFrom meaning.meant meaning.accepted meaning.kept meaning.finished meaning.finishedBy meaning.closing meaning.endOf meaning.goesOn commands.same commands.wordsOf commands.floatsOf commands.spots commands.target commands.tagOf commands.finishing commands.startOf commands.inkOf commands.placeOf commands.ended commands.fits commands.numberOf commands.written commands.inked commands.mayDraw commands.named commands.commandOf meaning.after eqOf eq ofBits round allFinite
 its-pieces = decodes its-tags its-points its-commands its-end its-call 2 is-placed is-fresh (record { words = omega arith; prefixes = omega arith })

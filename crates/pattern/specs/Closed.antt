@@ -48,7 +48,7 @@ numbers-parts (x ∷ xs) ys h =
     (rw (b .0) (k .0), k .1)
 
 finite-not-nan : (x : Float) → finite x ≡ true → isNan x ≡ false
-unfolding finite isNan
+unfolding isNan
 finite-not-nan nan h = let z : _≡_ {A = ℕ} 0 1 = cc in absurd (omega arith)
 finite-not-nan (inf s) h = refl
 finite-not-nan (fin s m e) h = refl
