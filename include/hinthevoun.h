@@ -153,6 +153,53 @@ uint32_t hinth_flatten(uint32_t n_wg, uint32_t tag_base, uint32_t data_base, uin
                        uint64_t *out, size_t out_len);
 
 /*
+ * Lists of lines: six words a record, as hinth_flatten stores them, by whoever made them.
+ *
+ * Checks a list of at most 2,000 records and changes nothing of it. It is sound exactly when no coordinate is a NaN or
+ * an infinity and, for each path number separately, every point is a start as often as an end; +0 and -0 are one. The
+ * second word of a record is ignored, and an empty list is sound. What the library draws for closed fills of one path
+ * each, up to 2,000 lines, passes where its coordinates are finite.
+ *
+ * The result is 0 if the list was looked at, or the number of its refusal, the first that holds:
+ *
+ *   50  the list has more than 2,000 whole records
+ *   51  its number of words is not a multiple of six
+ *
+ * out[0] is 0 for a sound list, 1 where a record has a bad number, 2 where none has and a record has its start or its end
+ * out of balance in its path; out[1] is the first such record, counted from 0. Both are 0 at a refusal. If out_len is
+ * under 2 neither is written. Nothing else of out is ever written.
+ */
+uint32_t hinth_check(const uint32_t *list, size_t list_words, uint64_t *out, size_t out_len);
+
+/*
+ * Old sheets: tag bytes, as many as there are, and point words.
+ *
+ * A tag counts point words where its type or its end bit is not zero: as many points as its type says, and one more for
+ * the end bit. hinth_to_f32 sets bit 0x08 in each such tag and writes its points as two f32 words each, where they were
+ * one word of two i16. hinth_to_i16 goes back: it clears the bit and writes one word a point. Every other bit, every tag
+ * that counts nothing, and the order stay. Tags and words go to the front of the lent buffers, and nothing behind them is
+ * written. The sheet is only read, and looked through whole before a word is written: a refusal changes nothing.
+ *
+ * The result is 0, or the number of the first of these that holds:
+ *
+ *   40  a tag that counts points has the wanted kind already: out[2] is its index
+ *   43  a counted point word is not there: out[2] is the index of the first that is missing
+ *   41  (to i16) a counted coordinate is no whole number from -32768 to 32767, or is -0: out[2] is the index of its word
+ *   42  no room for the tags or the points
+ *
+ * out[0] and out[1] are how many tags and point words were written, 0 at a refusal; out[2] is 0 where there is nothing to
+ * tell. If out_len is under 3 none is written. Nothing else of out is ever written.
+ *
+ * Back from what hinth_to_f32 wrote are the old bytes and words. A sheet that was moved and is scanned afresh flattens to
+ * the same lines and boxes, bit for bit, under the conditions that docs/SHEETS.md lists.
+ */
+uint32_t hinth_to_f32(const uint8_t *tags, size_t n_tags, const uint32_t *points, size_t point_words, uint8_t *new_tags,
+                      size_t new_tag_room, uint32_t *new_points, size_t new_point_room, uint64_t *out, size_t out_len);
+
+uint32_t hinth_to_i16(const uint8_t *tags, size_t n_tags, const uint32_t *points, size_t point_words, uint8_t *old_tags,
+                      size_t old_tag_room, uint32_t *old_points, size_t old_point_room, uint64_t *out, size_t out_len);
+
+/*
  * Drawing: moves, lines, quadratics, cubics and ends become the tag bytes and the f32 point words of fills, in lent
  * buffers. docs/DRAWING.md shows a whole sheet. Transform, style and path tags stay with the caller: before the tags of
  * a path goes 0x20 and 0x40 where a new transform and a new style hold, and behind them 0x10; the tags are then packed

@@ -1,20 +1,31 @@
-//! The library as others link it: small C programs that include the header are compiled, linked with the same archive
-//! and run, and so are the tests of the Rust wrapper.
+//! The library as others link it: each C program of harness/c, which includes the header, is compiled, linked with the same
+//! archive and run, and so are the tests of the Rust wrapper.
 
 use crate::sweep::Tally;
 use std::path::{Path, PathBuf};
 use std::process::Command;
 
-/// Compiles, links and runs harness/c/NAME.c.
-pub fn header(name: &str) -> Tally {
+pub fn header() -> Tally {
+    let mut sources: Vec<PathBuf> = std::fs::read_dir(root().join("harness/c"))
+        .and_then(|files| files.map(|file| Ok(file?.path())).collect())
+        .unwrap_or_default();
+    sources.sort();
+    let mut tally = Tally::default();
+    for source in sources {
+        tally.add(program(&source));
+    }
+    tally
+}
+
+fn program(source: &Path) -> Tally {
     let root = root();
-    let program = root.join("target/harness").join(name);
+    let program = root.join("target/harness").join(source.file_stem().expect("a source has a name"));
     let compiled = output(
         Command::new("cc")
             .args(["-std=c99", "-pedantic", "-Wall", "-Wextra", "-Werror", "-O1"])
             .arg("-I")
             .arg(root.join("include"))
-            .arg(root.join("harness/c").join(name).with_extension("c"))
+            .arg(source)
             .arg(root.join("target/staticlib/libexports.a"))
             .arg("-o")
             .arg(&program),

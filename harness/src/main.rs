@@ -2,6 +2,7 @@
 
 mod angles;
 mod bench;
+mod checker;
 mod exact;
 mod ffi;
 mod half;
@@ -10,6 +11,7 @@ mod pattern;
 mod random;
 mod report;
 mod roots;
+mod sheets;
 mod sweep;
 mod trig;
 
@@ -41,6 +43,7 @@ fn main() -> ExitCode {
         ["full", only] => checks(Extent::Whole, only),
         ["bench"] => {
             bench::run();
+            checker::bench();
             ExitCode::SUCCESS
         }
         _ => {
@@ -53,12 +56,13 @@ fn main() -> ExitCode {
 /// Runs the checks whose names begin with `only`.
 fn checks(extent: Extent, only: &str) -> ExitCode {
     let mut report = Report::new(only);
-    report.check("C header: a C program that uses it", || interface::header("interface"));
-    report.check("C header: a C program that draws", || interface::header("pattern"));
+    report.check("C header: C programs that use it", interface::header);
     report.check("Rust wrapper: its tests", interface::wrapper);
     roots::run(&mut report, extent);
     trig::run(&mut report, extent);
     angles::run(&mut report, extent);
+    checker::run(&mut report, extent);
+    sheets::run(&mut report, extent);
     pattern::run(&mut report, extent);
     match report.close() {
         true => ExitCode::SUCCESS,

@@ -10,6 +10,11 @@ unsafe extern "C" {
     safe fn clock() -> c_long;
 }
 
+/// The processor time of this program so far, in seconds.
+pub fn used() -> f64 {
+    clock() as f64 / 1e6
+}
+
 /// The checks run so far. Only those are run whose line begins with `only`.
 pub struct Report {
     only: String,
@@ -27,9 +32,9 @@ impl Report {
         if !what.starts_with(&self.only) {
             return;
         }
-        let (start, used) = (Instant::now(), clock());
+        let (start, before) = (Instant::now(), used());
         let Tally { compared, failed, examples, worst } = check();
-        let (seconds, used) = (start.elapsed().as_secs_f64(), (clock() - used) as f64 / 1e6);
+        let (seconds, used) = (start.elapsed().as_secs_f64(), used() - before);
         let passed = compared > 0 && failed == 0;
         let verdict = if passed { "ok  " } else { "FAIL" };
         print!("{verdict} {what}: {compared} compared, {failed} failed");

@@ -75,8 +75,13 @@ impl Draft {
 
     /// The marker behind holds the start and the first tangent, for the caps.
     pub fn open_stroke(&mut self, outline: &Outline) {
+        self.open_stroke_marked(outline, [outline.start, outline.segments[0][0]]);
+    }
+
+    /// The same with a marker's points as given.
+    pub fn open_stroke_marked(&mut self, outline: &Outline, marker: [Point; 2]) {
         self.segments(outline);
-        self.points(&[outline.start, outline.segments[0][0]]);
+        self.points(&marker);
         self.tags.push(F32 | QUAD | SUBPATH_END);
     }
 

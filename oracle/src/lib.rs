@@ -16,6 +16,7 @@ mod sheet;
 mod shrink;
 pub mod spiral;
 pub mod stops;
+pub mod strokes;
 mod tags;
 mod values;
 pub mod whole;

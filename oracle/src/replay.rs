@@ -46,7 +46,8 @@ fn print(given: &Given, told: &Told) {
     let bases = [given.n_wg, given.tag_base, given.data_base, given.transform_base, given.style_base];
     let lent = [given.scene.len(), given.prefixes.len(), given.boxes.len(), given.lines.len(), patches.len() / 2];
     let of_scan = [scan_number, scan_count as u32, hash(&scanned)];
-    let of_call = [told.stop.word(), told.tag as u32, told.count as u32, hash(&told.lines), hash(&box_words(&told.boxes))];
+    let of_call =
+        [told.stop.word(), told.tag as u32, told.count as u32, hash(&told.lines), hash(&box_words(&told.boxes))];
     println!("{}", hex(&[&bases[..], &lent.map(|n| n as u32), &of_scan, &of_call].concat()));
     // Patches are read two words at a time, so that no run may go from one to the next.
     let pairs = patches.chunks(2).flat_map(runs).collect();

@@ -3,6 +3,8 @@
 The functions are those of include/hinthevoun.h, one for one:
 
     scan, flatten                                   from tags, points, transforms and styles to lines and boxes
+    check                                           whether a list of lines is sound
+    to_f32, to_i16                                  tags and points of an old sheet moved to f32 points, and back
     sqrt, hypot, cbrt, two_thirds, half,
     sin, cos, atan2, asin, acos                     the mathematics, each answer an f32
     move, line, quad, cubic, end                    drawing fills: from commands to tags and points, with a Pen
@@ -21,13 +23,15 @@ refusal is the exception Refusal. The triangle of docs/FLATLIST.md:
     hinthevoun.flatten(*layout, scene, prefixes, boxes, lines)    # 3, and three lines of six words in `lines`
 """
 from .calls import EMPTY_BOX, Layout, empty_boxes, flatten, scan
+from .checking import NotChecked, Verdict, check
 from .drawing import Sheet
 from .errors import NoLibrary, Wrong
 from .maths import acos, asin, atan2, cbrt, cos, half, hypot, sin, sqrt, two_thirds
+from .moving import Moved, NotMoved, to_f32, to_i16
 from .pattern import NotDrawn, Pen, cubic, end, line, move, quad
 from .refusals import Refusal
 
 __version__ = "0.1.0"
-__all__ = ["EMPTY_BOX", "Layout", "NoLibrary", "NotDrawn", "Pen", "Refusal", "Sheet", "Wrong", "acos", "asin", "atan2", "cbrt",
-           "cos", "cubic", "empty_boxes", "end", "flatten", "half", "hypot", "line", "move", "quad", "scan", "sin", "sqrt",
-           "two_thirds"]
+__all__ = ["EMPTY_BOX", "Layout", "Moved", "NoLibrary", "NotChecked", "NotDrawn", "NotMoved", "Pen", "Refusal", "Sheet",
+           "Verdict", "Wrong", "acos", "asin", "atan2", "cbrt", "check", "cos", "cubic", "empty_boxes", "end", "flatten",
+           "half", "hypot", "line", "move", "quad", "scan", "sin", "sqrt", "to_f32", "to_i16", "two_thirds"]

@@ -16,6 +16,8 @@ COMMANDS = {
     "draw": "a picture of a list or a sheet, or of one laid over another",
     "compare": "a page that lays two folders of drawings over each other, worst first",
     "info": "what a sheet holds",
+    "check": "whether a list of lines is sound, of this shop or another",
+    "convert": "a sheet of i16 points moved to f32 points, or back",
 }
 
 HELP = f"""usage: hinth COMMAND ...
@@ -31,6 +33,8 @@ Examples:
   hinth draw old.lines new.lines -o both.svg            lay one list over another
   hinth compare old/ new/ -o report.html                all drawings of two folders, worst first
   hinth info samples/socket.sheet                       tags, subpaths, styles, transforms, size
+  hinth check socket.lines                              no bad number, every point a start as often as an end
+  hinth convert --to f32 old.sheet -o new.sheet         an old sheet moved to f32 points, with the same lines
 
 A sheet or a list is text, as docs/FLATLIST.md explains, or packed little-endian words; - is standard input or output.
 The exit status is 0 if it is done, 1 if something was refused, 2 for bad input or wrong usage. `hinth COMMAND --help` says

@@ -30,6 +30,14 @@ BOX_ROW = re.compile(b"box( -?[0-9]{1,10}){4}( [0-9]{1,10}){2}")
 Boxes = List[Tuple[int, ...]]
 
 
+class Parts(NamedTuple):
+    """What stands in a list: the refusal's sentence, empty where there is none; the words of the records; the boxes."""
+
+    refusal: str
+    words: "array[int]"
+    boxes: Boxes
+
+
 class Listing(NamedTuple):
     """A list as it is drawn. The refusal is empty where the call was accepted; a box is its six numbers."""
 
@@ -98,7 +106,14 @@ def wrong_at(name: str, number: int, why: str) -> Wrong:
 
 
 def packed_listing(name: str, data: bytes) -> Listing:
-    """A packed list, which is as long as its head says."""
+    """A packed list, as it is drawn."""
+    refusal, words, boxes = packed_parts(name, data)
+    check_records(words, lambda row, why: Wrong(f"{name}: record {row + 1:,}: {why}"))
+    return Listing(name, refusal, lines_of_words(words), boxes)
+
+
+def packed_parts(name: str, data: bytes) -> Parts:
+    """What stands in a packed list, which is as long as its head says."""
     if len(data) < HEAD.size:
         raise Wrong(f"{name}: a packed list that ends in its head; {AGAIN}")
     _, form, number, end, low, high, lines, boxes, *_ = HEAD.unpack_from(data)
@@ -108,14 +123,19 @@ def packed_listing(name: str, data: bytes) -> Listing:
     if len(data) != size:
         raise Wrong(f"{name}: a packed list of {size:,} bytes by its head, and {len(data):,} are there; {AGAIN}")
     behind = HEAD.size + 24 * lines
-    words = in_order(array("I", data[HEAD.size:behind]))
-    check_records(words, lambda row, why: Wrong(f"{name}: record {row + 1:,}: {why}"))
     refusal = Refusal(number, low + (high << 32), lines, end).sentence if number else ""
-    return Listing(name, refusal, lines_of_words(words), list(BOX.iter_unpack(data[behind:])))
+    return Parts(refusal, in_order(array("I", data[HEAD.size:behind])), list(BOX.iter_unpack(data[behind:])))
 
 
 def text_listing(name: str, data: bytes) -> Listing:
-    """The list that flatlist wrote."""
+    """The list that flatlist wrote, as it is drawn."""
+    refusal, words, boxes = text_parts(name, data)
+    check_records(words, lambda row, why: wrong_at(name, row + 2, why))
+    return Listing(name, refusal, lines_of_words(words), boxes)
+
+
+def text_parts(name: str, data: bytes) -> Parts:
+    """What stands in the list that flatlist wrote."""
     if not data:
         raise wrong_at(name, 1, f"empty; {AGAIN}")
     check_ends(name, data)
@@ -124,12 +144,12 @@ def text_listing(name: str, data: bytes) -> Listing:
     promised, refusal = answer_of(name, data[:behind_first - 1])
     place = data.find(b"\nbox ")
     behind = len(data) if place < 0 else place + 1
-    lines = lines_of_text(name, data[behind_first:behind])
-    first = len(lines.paths) + 2
-    boxes = [box_of(name, number, row) for number, row in enumerate(data[behind:].split(b"\n")[:-1], first)]
-    if promised not in (None, len(lines.paths)):
-        raise wrong_at(name, 1, f"promises {count(promised, 'line')}, and {len(lines.paths)} follow; {AGAIN}")
-    return Listing(name, refusal, lines, boxes)
+    words = records_of_text(name, data[behind_first:behind], 2)
+    lines = len(words) // WORDS_OF_A_LINE
+    boxes = [box_of(name, number, row) for number, row in enumerate(data[behind:].split(b"\n")[:-1], lines + 2)]
+    if promised not in (None, lines):
+        raise wrong_at(name, 1, f"promises {count(promised, 'line')}, and {lines} follow; {AGAIN}")
+    return Parts(refusal, words, boxes)
 
 
 def check_ends(name: str, data: bytes) -> None:
@@ -158,14 +178,12 @@ def wrong_row(name: str, number: int, row: bytes) -> Wrong:
     return wrong_at(name, number, f"neither a record of six words nor, behind the records, a box: {quoted(row)}; {AGAIN}")
 
 
-def lines_of_text(name: str, text: bytes) -> Lines:
-    """The records behind the first row."""
+def records_of_text(name: str, text: bytes, first: int) -> "array[int]":
+    """The words of rows that are records, from the line `first` of a file on."""
     if not are_rows(text, WORDS_OF_A_LINE):
-        rows = enumerate(text.split(b"\n")[:-1], 2)
+        rows = enumerate(text.split(b"\n")[:-1], first)
         raise wrong_row(name, *next((number, row) for number, row in rows if not RECORD_ROW.fullmatch(row)))
-    words = words_of(text)
-    check_records(words, lambda row, why: wrong_at(name, row + 2, why))
-    return lines_of_words(words)
+    return words_of(text)
 
 
 def check_records(words: "array[int]", wrong: Callable[[int, str], Wrong]) -> None:

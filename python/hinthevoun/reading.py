@@ -19,15 +19,15 @@ FIRST_WORD = re.compile(b"[0-9a-fA-F]{8}\r?\n")
 class Limited:
     """A stream that is read up to the limit."""
 
-    def __init__(self, name: str, stream: BinaryIO) -> None:
-        self.name, self.stream, self.left = name, stream, MOST_BYTES
+    def __init__(self, name: str, stream: BinaryIO, done: str = "drawn") -> None:
+        self.name, self.stream, self.left, self.done = name, stream, MOST_BYTES, done
 
     def read(self, size: int) -> bytes:
         """As a stream's; a sentence where it goes on past the limit."""
         data = self.stream.read(size)
         self.left -= len(data)
         if self.left < 0:
-            raise Wrong(f"{self.name}: longer than {MOST_BYTES:,} bytes, so it is not read to its end and not drawn")
+            raise Wrong(f"{self.name}: longer than {MOST_BYTES:,} bytes, so it is not read to its end and not {self.done}")
         return data
 
     def rest(self, first: bytes) -> bytes:

@@ -696,6 +696,13 @@ class Samples(unittest.TestCase):
         same((result.status, len(result.lines()), result.rings()), (0, 112, []))
         assert result.out == (ROOT / "docs/figures/socket.svg").read_bytes(), "docs/figures/socket.svg is another picture"
 
+    def test_the_gap_of_a_bevel_join_is_ringed(self):
+        result = run_draw("samples/bevel-gap.sheet")
+        same((result.status, len(result.lines()), len(result.rings())), (0, 6, 2))
+        same(result.titles(), ["path 0, (-0.99999994, 1): 0 starts, 1 end", "path 0, (-1, 0.99999994): 1 start, 0 ends"])
+        wide = (ROOT / "samples/bevel-gap.sheet").read_text().replace("34000000", "40000000")
+        same(run_draw("-", data=wide.encode()).rings(), [])
+
     def test_a_sheet_gives_the_picture_of_its_lines(self):
         socket = run_draw("-", data=(ROOT / "samples/socket.sheet").read_bytes())
         same(socket.status, 0)

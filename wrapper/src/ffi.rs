@@ -83,6 +83,88 @@ pub fn flatten(
     (number, out)
 }
 
+unsafe extern "C" {
+    fn hinth_check(list: *const u32, list_words: usize, out: *mut u64, out_len: usize) -> u32;
+}
+
+/// The refusal's number or 0, and what is wrong and in which record.
+pub fn check(list: &[u32]) -> (u32, [u64; 2]) {
+    let mut out = [0; 2];
+    // SAFETY: as in `scan`.
+    let number = unsafe { hinth_check(list.as_ptr(), list.len(), out.as_mut_ptr(), out.len()) };
+    (number, out)
+}
+
+/// What both ways of moving a sheet are.
+type Move = unsafe extern "C" fn(
+    *const u8,
+    usize,
+    *const u32,
+    usize,
+    *mut u8,
+    usize,
+    *mut u32,
+    usize,
+    *mut u64,
+    usize,
+) -> u32;
+
+unsafe extern "C" {
+    fn hinth_to_f32(
+        tags: *const u8,
+        n_tags: usize,
+        points: *const u32,
+        point_words: usize,
+        new_tags: *mut u8,
+        new_tag_room: usize,
+        new_points: *mut u32,
+        new_point_room: usize,
+        out: *mut u64,
+        out_len: usize,
+    ) -> u32;
+    fn hinth_to_i16(
+        tags: *const u8,
+        n_tags: usize,
+        points: *const u32,
+        point_words: usize,
+        old_tags: *mut u8,
+        old_tag_room: usize,
+        old_points: *mut u32,
+        old_point_room: usize,
+        out: *mut u64,
+        out_len: usize,
+    ) -> u32;
+}
+
+/// The refusal's number or 0; how many tags and words were written, and the index that a refusal tells.
+fn moved(way: Move, tags: &[u8], points: &[u32], to_tags: &mut [u8], to_points: &mut [u32]) -> (u32, [u64; 3]) {
+    let mut out = [0; 3];
+    // SAFETY: as in `scan`.
+    let number = unsafe {
+        way(
+            tags.as_ptr(),
+            tags.len(),
+            points.as_ptr(),
+            points.len(),
+            to_tags.as_mut_ptr(),
+            to_tags.len(),
+            to_points.as_mut_ptr(),
+            to_points.len(),
+            out.as_mut_ptr(),
+            out.len(),
+        )
+    };
+    (number, out)
+}
+
+pub fn to_f32(tags: &[u8], points: &[u32], to_tags: &mut [u8], to_points: &mut [u32]) -> (u32, [u64; 3]) {
+    moved(hinth_to_f32, tags, points, to_tags, to_points)
+}
+
+pub fn to_i16(tags: &[u8], points: &[u32], to_tags: &mut [u8], to_points: &mut [u32]) -> (u32, [u64; 3]) {
+    moved(hinth_to_i16, tags, points, to_tags, to_points)
+}
+
 /// How many words a pen has.
 pub const PEN_WORDS: usize = 7;
 

@@ -21,8 +21,13 @@
 //! assert_eq!(boxes, [PathBox { x0: 0, y0: 0, x1: 3, y1: 6, draw_flags: 0, trans_ix: 0 }]);
 //! ```
 
+mod check;
 mod ffi;
 pub mod pattern;
+mod sheets;
+
+pub use check::{CheckRefusal, Verdict, check};
+pub use sheets::{MoveRefusal, Moved, to_f32, to_i16};
 
 /// Where in a scene its parts begin, in words, and how many workgroups of 256 tags to take.
 #[derive(Clone, Copy, Debug, PartialEq, Eq)]

@@ -12,7 +12,8 @@ use lib.ListN.{getD}
 use lib.Ieee.{Float, nan, binary32, isNan, eq, lt, neg}
 use lib.Ieee.Order.{round-mono}
 use Rattle.laws.specs.Binary32.{_⊕_, _⊖_, _⊗_, dec, whole}
-use Rattle.laws.specs.NotFinite.{Stray, stray-add, add-stray, stray-sub, stray-mul, mul-stray, nan-add, add-nan, nan-sub, nan-mul, mul-nan, div-nan, nan-lt, side, beyond-side, beyond-add, add-beyond, beyond-sub, sub-beyond, apart-add, above-all, beyond-square, unsigned, unsigned-round, unsigned-mul, unsigned-sub, beyond-mul}
+use Rattle.laws.specs.Nan.{nan-add, add-nan, nan-sub, nan-mul, mul-nan, div-nan, nan-lt}
+use Rattle.laws.specs.NotFinite.{Stray, stray-add, add-stray, stray-sub, stray-mul, mul-stray, side, beyond-side, beyond-add, add-beyond, beyond-sub, sub-beyond, apart-add, above-all, beyond-square, unsigned, unsigned-round, unsigned-mul, unsigned-sub, beyond-mul}
 use Rattle.maths.specs.Numbers.{absOf, abs-nan, ceil-nan, clamp-nan}
 use Rattle.maths.specs.Trig.{atan2-nan-x}
 use Rattle.refusals.specs.declared.Refusal.the-variants.{NoCount}

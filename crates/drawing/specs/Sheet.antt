@@ -1,15 +1,15 @@
 -- What is drawn is a list of events, in the source's order; how events are stored is one fold over the sheet, `drawAll`. Definitions only.
-use Prim.Native.Nat.{ℕ, _+_, _*_, _/_}
+use Prim.Native.Nat.{ℕ, _+_}
 use mathlib.Core.Path.{_≡_}
 use mathlib.Core.Bool.{Bool, true, false, _&&_, cond}
 use mathlib.Core.List.{List, [], _∷_}
-use lib.ListN.{length}
 use lib.Seq.{sets}
 use lib.Dec.{ltb}
 use lib.IntN.{ℤ, pos, negsuc}
 use lib.Signed.{ltZ}
 use lib.Ieee.{Float, binary32, toBits, toSigned}
 use Rattle.maths.specs.Numbers.{floorOf, ceilOf}
+use Rattle.records.specs.Record.{recordWords, placeOf, count as recordCount}
 use Rattle.refusals.specs.Refusals.{numberOf, endOf}
 use Rattle.refusals.specs.declared.Refusal.{Refusal}
 use Rattle.refusals.specs.declared.LineEnd.the-variants.{Start, End}
@@ -65,11 +65,11 @@ sheet ws d = record { words = ws; drawn = d }
 
 -- the six words of a line: its path, the tag that drew it, its two points
 abbrev pub recordOf : ℕ → ℕ → Vec2 → Vec2 → List ℕ
-recordOf path tag p q = path ∷ tag ∷ toBits binary32 (p .x) ∷ toBits binary32 (p .y) ∷ toBits binary32 (q .x) ∷ toBits binary32 (q .y) ∷ []
+recordOf path tag p q = recordWords path tag (toBits binary32 (p .x)) (toBits binary32 (p .y)) (toBits binary32 (q .x)) (toBits binary32 (q .y))
 
 -- one more line has room, and does not make the count 4,294,967,296
 unfoldable pub hasRoom : List ℕ → ℕ → Bool
-hasRoom ws n = ltb n 4294967295 && ltb n (length ws / 6)
+hasRoom ws n = ltb n 4294967295 && ltb n (recordCount ws)
 
 -- the pen behind a line: one line more, and the box with its points
 abbrev pub penBehind : Pen → Vec2 → Vec2 → Pen
@@ -81,7 +81,7 @@ stored true end room path ws pen p q = sheet ws (Stopped (NotNumber Start) (pen 
 stored false true room path ws pen p q = sheet ws (Stopped (NotNumber End) (pen .count))
 stored false false false path ws pen p q = sheet ws (Stopped NoRoom (pen .count))
 stored false false true path ws pen p q =
-    sheet (sets ws (pen .count * 6) (recordOf path (pen .tag) p q)) (On (penBehind pen p q))
+    sheet (sets ws (placeOf (pen .count)) (recordOf path (pen .tag) p q)) (On (penBehind pen p q))
 
 unfoldable pub drawOn : ℕ → List ℕ → Pen → Event → Sheet
 drawOn path ws pen (line p q) = stored (hasNan p) (hasNan q) (hasRoom ws (pen .count)) path ws pen p q

@@ -1,3 +1,6 @@
 pub mod Table
 pub mod Triangle
+pub mod Passes
+pub mod Corner
+pub mod Moved
 pub mod Drawn

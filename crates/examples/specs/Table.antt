@@ -2,7 +2,7 @@
 use Prim.Native.Nat.{ℕ, _+_, _*_}
 use mathlib.Core.Path.{_≡_, refl}
 use mathlib.Core.List.{List, [], _∷_, _++_, map, flatten}
-use lib.ListN.{replicate}
+use lib.ListN.{length, replicate}
 use lib.IntN.{ℤ, pos, negsuc}
 use lib.Ieee.{Float, ofBits, ofInt, toBits, toSigned, toUnsigned, round, neg, add, sub, mul, div, lt, le, eq, isNan}
 use Rattle.laws.specs.Binary32.{dec, whole}
@@ -32,6 +32,7 @@ use Rattle.flatten.specs.Call.{firstTurn, startOf, taken, answerOf, said, toldO
 use Rattle.flatten.specs.Whose.{aside, setAside}
 use Rattle.flatten.specs.declared.boxes.PathBox.{PathBox}
 use Rattle.flatten.specs.declared.call.Layout.{Layout}
+use Rattle.watertight.specs.Fill.{Call, eventsOr, drawnAt}
 
 -- ---- a row: what the definitions give, and what was measured
 
@@ -127,14 +128,23 @@ table =
 abbrev pub drawn : Outcome
 drawn = outcome (said 0 0 3) (record { x0 = pos 0; y0 = pos 0; x1 = pos 3; y1 = pos 6; «draw_flags» = 0; «trans_ix» = 0 } ∷ []) (threeLines 2 3 4)
 
-computed : (map (λ r. r .given) table ≡ map (λ r. r .measured) table) × (triangle 0x20 (freshBox ∷ []) 3 ≡ drawn)
-unfolding table aside flatten ofBits ofInt toBits toSigned toUnsigned round neg add sub mul div lt le eq isNan signOf signed absOf halfUnits halfFields halfOf before maxOf clampOf wholeOf floorOf ceilOf sqrtOf twoThirdsOf hypotOf trig.boundedOf trig.sinNear trig.cosNear trig.reducedOf trig.curveOf trig.waveOf trig.sinOf trig.cosOf trig.angleOf trig.atan2Of addOf subOf mulOf dotOf lengthOf lengthSquaredOf mixOf angleOf hasNan eqOf identityOf applyOf fittedError errorRatio longChord fromPointsDerivs fromAngles wordAt tagSums plus byteAt sumsBelow wordSums tagData prefixAt withPrefix tagIn tagOf sumsBefore prefixes filled scanOf i16Of i16Point pointWords pointAt lineCubic pointCount raised cubicOf reaches segmentOf floatsAt transformOf allFinite flagsOf lowerOf higherOf emptyBox boxWith hasRoom stored drawOn draw drawAll cubicPoint cubicDeriv cubicAt isShort firstTip tipAt paramsOf multiplierOf integrandOf robustOf nFracOf fitOf lineOf linesOf rangeOf rangeEnd tipOf isNear accepted walk isPoint sideEvents deviceSide eulerEvents fillEvents shapeEvents freshBox hasExtent markedOf mergedOf changedOf changedAt _>>=_ boxed headAt finiteOnly shapeAt eventsBy eventsAt drawnOf changeOf turnOf refusedAt stepFromBy stepBy firstTurn startOf taken onwardBy afterBy answerOf numberOf endOf toldOf callBy
-computed = (refl, refl)
+-- the same call, as demand 3 speaks of it
+unfoldable pub its-call : Call
+its-call = record { layout = bases; scene = sceneFrom 0x20; prefixes = scanned 0x20; boxes = freshBox ∷ []; lines = replicate 18 0 }
 
--- ---- the two theorems
+computed : (map (λ r. r .given) table ≡ map (λ r. r .measured) table) × (triangle 0x20 (freshBox ∷ []) 3 ≡ drawn)
+    × (map (λ i. length (drawnAt its-call i)) (2 ∷ 3 ∷ 4 ∷ []) ≡ 1 ∷ 1 ∷ 1 ∷ [])
+unfolding its-call drawnAt eventsOr table aside flatten ofBits ofInt toBits toSigned toUnsigned round neg add sub mul div lt le eq isNan signOf signed absOf halfUnits halfFields halfOf before maxOf clampOf wholeOf floorOf ceilOf sqrtOf twoThirdsOf hypotOf trig.boundedOf trig.sinNear trig.cosNear trig.reducedOf trig.curveOf trig.waveOf trig.sinOf trig.cosOf trig.angleOf trig.atan2Of addOf subOf mulOf dotOf lengthOf lengthSquaredOf mixOf angleOf hasNan eqOf identityOf applyOf fittedError errorRatio longChord fromPointsDerivs fromAngles wordAt tagSums plus byteAt sumsBelow wordSums tagData prefixAt withPrefix tagIn tagOf sumsBefore prefixes filled scanOf i16Of i16Point pointWords pointAt lineCubic pointCount raised cubicOf reaches segmentOf floatsAt transformOf allFinite flagsOf lowerOf higherOf emptyBox boxWith hasRoom stored drawOn draw drawAll cubicPoint cubicDeriv cubicAt isShort firstTip tipAt paramsOf multiplierOf integrandOf robustOf nFracOf fitOf lineOf linesOf rangeOf rangeEnd tipOf isNear accepted walk isPoint sideEvents deviceSide eulerEvents fillEvents shapeEvents freshBox hasExtent markedOf mergedOf changedOf changedAt _>>=_ boxed headAt finiteOnly shapeAt eventsBy eventsAt drawnOf changeOf turnOf refusedAt stepFromBy stepBy firstTurn startOf taken onwardBy afterBy answerOf numberOf endOf toldOf callBy
+computed = (refl, refl, refl)
+
+-- ---- the theorems
 
 pub as-measured : map (λ r. r .given) table ≡ map (λ r. r .measured) table
 as-measured = computed .0
 
 pub as-drawn : triangle 0x20 (freshBox ∷ []) 3 ≡ drawn
 as-drawn = computed .1
+
+-- each of its tags draws one line
+pub as-many : map (λ i. length (drawnAt its-call i)) (2 ∷ 3 ∷ 4 ∷ []) ≡ 1 ∷ 1 ∷ 1 ∷ []
+as-many = computed .2

@@ -4,22 +4,17 @@ use Prim.Native.Nat.{ℕ}
 use mathlib.Core.Path.{_≡_, refl, ap}
 use mathlib.Core.List.{List, [], _∷_}
 use lib.Dec.{lit<}
-use lib.ListN.{replicate}
 use lib.Ieee.{ofInt, eq, round, neg}
 use Rattle.spiral.specs.Util.{eqOf}
 use Rattle.scene.specs.Words.{wordAt}
 use Rattle.scene.specs.Tags.{tagSums, plus, byteAt, sumsBelow, wordSums, tagData, prefixAt, withPrefix, tagIn, tagOf, sumsBefore, prefixes, filled, scanOf}
 use Rattle.scene.specs.Reading.{i16Of, i16Point, pointWords, pointAt, flagsOf}
-use Rattle.flatten.specs.Boxes.{freshBox}
 use Rattle.flatten.specs.Tag.{_>>=_, boxed, headAt}
 use Rattle.flatten.specs.Call.{Outcome}
 use Rattle.watertight.specs.Count.{starts, ends}
-use Rattle.watertight.specs.Fill.{Call, outcome, Accepted, headOr, headOf, pointOf, Filled, Each, Follows, Run, final, Closed, linesOf, stored}
+use Rattle.watertight.specs.Fill.{outcome, Accepted, headOr, headOf, pointOf, Filled, Each, Follows, Run, final, Closed, linesOf, stored}
 use Rattle.watertight.specs.Watertight.{watertight, watertight-stored}
-use Rattle.examples.specs.Table.{sceneFrom, scanned, bases, drawn, as-drawn}
-
-unfoldable pub its-call : Call
-its-call = record { layout = bases; scene = sceneFrom 0x20; prefixes = scanned 0x20; boxes = freshBox ∷ []; lines = replicate 18 0 }
+use Rattle.examples.specs.Table.{its-call, drawn, as-drawn}
 
 -- ---- it is accepted, and stores three records and their box
 
@@ -27,7 +22,7 @@ pub its-outcome : outcome its-call ≡ drawn
 unfolding its-call
 its-outcome = as-drawn
 
-pub its-acceptance : Accepted its-call
+unfoldable pub its-acceptance : Accepted its-call
 unfolding its-call
 its-acceptance = record { u32 = lit< tt; count = 3; answer = ap (λ (o : Outcome). o .answer) its-outcome }
 

@@ -1,7 +1,8 @@
 -- No second number satisfies the contract of a function of the C interface, nor second contents of the lists that it may write. Assumes nothing.
 use Prim.Native.Nat.{ℕ}
-use mathlib.Core.Path.{_≡_, _∙_, sym}
+use mathlib.Core.Path.{_≡_, _∙_, sym, ap}
 use mathlib.Core.List.{List}
+use lib.ListN.{length}
 use lib.Ieee.{Float}
 use Rattle.laws.specs.Only.{Only, determined}
 use Rattle.maths.specs.Numbers.{halfOf}
@@ -14,6 +15,13 @@ use Rattle.flatten.specs.Call.{callOf}
 use Rattle.pattern.specs.Commands.{Command, move, draw, end, line, quad, cubic}
 use Rattle.exports.specs.Call.{reported, reportedOf}
 use Rattle.exports.specs.Scan.{scanned, scannedOf}
+use Rattle.checker.specs.Verdict.{toldOf}
+use Rattle.checker.specs.Only.{check-only}
+use Rattle.checker.specs.declared.Verdict.{Verdict}
+use Rattle.exports.specs.Check.{twoOf, Checked}
+use Rattle.sheets.specs.Moving.{toF32, toI16}
+use Rattle.sheets.specs.Written.{stored}
+use Rattle.exports.specs.Convert.{moved, movedOf}
 use Rattle.exports.specs.Pen.{spotOf, penned, pennedBy}
 
 pub hinth-flatten-only : (layout : Layout) (scene prefixes : List ℕ) (ps : List PathBox) (ws os : List ℕ)
@@ -53,6 +61,21 @@ hinth-atan2-only y x = determined (atan2Of y x)
 
 pub hinth-half-only : (word : ℕ) → Only (λ (r : Float). r ≡ halfOf word)
 hinth-half-only word = determined (halfOf word)
+
+pub hinth-check-only : (list os : List ℕ) → Only (λ (r : ℕ × List ℕ). Checked list os (r .0) (r .1))
+hinth-check-only list os r s p q =
+    let v = check-only list (p .verdict) (q .verdict) (p .answers) (q .answers) in
+    let number = p .returned ∙ ap (λ (v : Verdict). toldOf v .number) v ∙ sym (q .returned) in
+    let out = p .written ∙ ap (λ (v : Verdict). twoOf (toldOf v .verdict) (toldOf v .«record») os) v ∙ sym (q .written) in
+    λ i. (number i, out i)
+
+pub hinth-to-f32-only : (tags points ts ws os : List ℕ)
+    → Only (λ (r : ℕ × (List ℕ × (List ℕ × List ℕ))). moved (r .0) (r .1 .0) (r .1 .1 .0) (r .1 .1 .1) ≡ movedOf (stored (toF32 tags points (length ts) (length ws)) ts ws) os)
+hinth-to-f32-only tags points ts ws os r s p q = let e = p ∙ sym q in λ i. (e i .number, (e i .tags, (e i .points, e i .out)))
+
+pub hinth-to-i16-only : (tags points ts ws os : List ℕ)
+    → Only (λ (r : ℕ × (List ℕ × (List ℕ × List ℕ))). moved (r .0) (r .1 .0) (r .1 .1 .0) (r .1 .1 .1) ≡ movedOf (stored (toI16 tags points (length ts) (length ws)) ts ws) os)
+hinth-to-i16-only tags points ts ws os r s p q = let e = p ∙ sym q in λ i. (e i .number, (e i .tags, (e i .points, e i .out)))
 
 -- a command of the pen, with the four that it may write
 abbrev pub Lent : Type 0

@@ -1,4 +1,4 @@
-// The C interface: each function is one of `maths`, `scene`, `flatten` or `pattern` under a name that
+// The C interface: each function is one of `maths`, `scene`, `flatten`, `checker`, `sheets` or `pattern` under a name that
 // C and Rust can link. See include/hinthevoun.h.
 ghost use mathlib.Core.Path.{_≡_};
 ghost use Rattle.maths.specs.Numbers.{halfOf};
@@ -6,6 +6,8 @@ ghost use Rattle.maths.specs.Roots.{sqrtOf, hypotOf, cbrtOf, twoThirdsOf};
 ghost use Rattle.maths.specs.Trig.{sinOf, cosOf, atan2Of, asinOf, acosOf};
 
 pub mod call;
+pub mod check;
+pub mod convert;
 pub mod pen;
 pub mod scan;
 

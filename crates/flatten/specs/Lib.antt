@@ -10,3 +10,5 @@ pub mod Whose
 pub mod SetAside
 pub mod WhoseLaws
 pub mod BadTransform
+pub mod Found
+pub mod SameEvents

@@ -1,9 +1,9 @@
 pub mod Binary32
 pub mod Only
+pub mod Nan
 pub mod Same
 pub mod Own
 pub mod NotFinite
 pub mod Dyadic
-pub mod Nan
 pub mod Neg
 pub mod Compare

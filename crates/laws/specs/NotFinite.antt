@@ -5,7 +5,7 @@ use mathlib.Core.Logic.{inl, inr}
 use Prim.Native.Nat.{ℕ, zero, suc, _+_, _-_, _*_, _/_, _%_, _^_, compare}
 use native.Mathlib.Omega.{arith}
 use lib.Dec.{T, ltb, eqb, ltb→lt, eqb→eq}
-use lib.Ieee.{Float, nan, inf, fin, Format, prec, emax, low, up, down, unlike, size, nearest, odd, units, round, sum, add, sub, mul, div, neg, lt, eq, le}
+use lib.Ieee.{Float, nan, inf, fin, Format, prec, emax, low, up, down, unlike, size, nearest, odd, units, round, sum, add, sub, mul, neg, lt, eq, le}
 use lib.Ieee.Fits.{and-l}
 use borrow.Author.Tests.{le-ltb}
 use lib.Ieee.Scale.{finite}
@@ -49,41 +49,6 @@ stray-mul f (fin s m e) y h = absurd h
 
 pub mul-stray : (f : Format) (x y : Float) → Stray y → Stray (mul f x y)
 mul-stray f x y h = subst (λ (v : Float). Stray v) (mul-swap f y x) (stray-mul f y x h)
-
--- ---- a NaN
-pub nan-add : (f : Format) (y : Float) → add f nan y ≡ nan
-unfolding add
-nan-add f y = refl
-
-pub add-nan : (f : Format) (x : Float) → add f x nan ≡ nan
-unfolding add
-add-nan f nan = refl
-add-nan f (inf s) = refl
-add-nan f (fin s m e) = refl
-
-pub nan-sub : (f : Format) (y : Float) → sub f nan y ≡ nan
-unfolding sub add
-nan-sub f y = refl
-
-pub nan-mul : (f : Format) (y : Float) → mul f nan y ≡ nan
-unfolding mul
-nan-mul f y = refl
-
-pub mul-nan : (f : Format) (x : Float) → mul f x nan ≡ nan
-unfolding mul
-mul-nan f nan = refl
-mul-nan f (inf s) = refl
-mul-nan f (fin s m e) = refl
-
-pub div-nan : (f : Format) (x : Float) → div f x nan ≡ nan
-unfolding div
-div-nan f nan = refl
-div-nan f (inf s) = refl
-div-nan f (fin s m e) = refl
-
-pub nan-lt : (y : Float) → lt nan y ≡ false
-unfolding lt
-nan-lt y = refl
 
 -- ---- a NaN, or the infinity of sign s
 abbrev pub beyond : Bool → Float → Bool

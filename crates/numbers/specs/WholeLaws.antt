@@ -16,7 +16,7 @@ use lib.Ieee.Exact.{HasValue}
 use lib.Ieee.Back.{round-whole}
 use Rattle.laws.specs.Same.{either}
 use Rattle.laws.specs.Own.{fits-says, round-own}
-use Rattle.laws.specs.Neg.{neg-neg}
+use Rattle.laws.specs.Neg.{neg-neg, round-neg}
 use Rattle.numbers.specs.Words.{signOf}
 use Rattle.numbers.specs.Whole.{quot, wholeOf, floorOf, ceilOf}
 
@@ -127,33 +127,11 @@ unfolding ceilOf wholeOf
 ceil-nan = refl
 
 -- ---- the other sign
-neg-odd : (d q k l : ℕ) → neg (odd d false q k l) ≡ odd d true q k l
-unfolding neg odd
-neg-odd d zero k l = refl
-neg-odd d (suc q) k l = refl
-
-neg-units : (f : Format) (q k : ℕ) → neg (units f false q k) ≡ units f true q k
-unfolding units
-neg-units f q k = go (ltb (q * 2 ^ k) (2 ^ (low f + suc (emax f))))
-  where
-    go : (b : Bool) → neg (cond b (odd (suc (prec f)) false q k (low f)) (inf false)) ≡ cond b (odd (suc (prec f)) true q k (low f)) (inf true)
-    go true = neg-odd (suc (prec f)) q k (low f)
-    go false = unfold neg in refl
-
-pub neg-round : (f : Format) (a c : ℕ) → neg (round f false a c) ≡ round f true a c
-unfolding round
-neg-round f a c =
-    let n = a * 2 ^ low f in
-    let k = size (n / c) - prec f in
-    let v = c * 2 ^ k in
-    neg-units f (nearest (n / v) (compare (n % v * 2) v)) k
-
 pub whole-neg : (u : Bool) (x : Float) → wholeOf u (neg x) ≡ neg (wholeOf u x)
 unfolding wholeOf neg
 whole-neg u nan = refl
 whole-neg u (inf s) = refl
-whole-neg u (fin false m e) = sym (neg-round binary32 (quot u (m * up e) (down e)) 1)
-whole-neg u (fin true m e) = let a = quot u (m * up e) (down e) in sym (ap neg (sym (neg-round binary32 a 1)) ∙ neg-neg (round binary32 false a 1))
+whole-neg u (fin s m e) = round-neg binary32 s (quot u (m * up e) (down e)) 1
 
 -- the ceiling of -x is minus the floor of x, and the floor minus the ceiling
 pub ceil-neg : (x : Float) → ceilOf (neg x) ≡ neg (floorOf x)

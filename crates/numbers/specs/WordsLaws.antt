@@ -60,3 +60,11 @@ half-exact w h =
     let x = w / 1024 % 32 in
     let t = w % 1024 in
     subst (λ (b : Bool). HasValue (cond b (cond (eqb t 0) (inf s) nan) (round binary32 s (halfUnits x t) (2 ^ 24))) s (halfUnits x t) (2 ^ 24)) (sym (ne-eqb x 31 (λ e. lt-irrefl 0 (omega arith)))) (units-exact s x t h (omega arith))
+
+-- ---- the sign and the size of a number that has none, and of the same turned round
+pub plus-size : (x : Float) (a c : ℕ) → HasValue x false a c → (signOf x ≡ false) × (absOf x ≡ x) × (signOf (neg x) ≡ true) × (absOf (neg x) ≡ x)
+unfolding signOf absOf signed neg
+plus-size nan a c v = absurd v
+plus-size (inf s) a c v = absurd v
+plus-size (fin true m e) a c v = let z : _≡_ {A = ℕ} 0 1 = (let k = v .0 in cc) in absurd (omega arith)
+plus-size (fin false m e) a c v = (refl, refl, refl, refl)

@@ -1,21 +1,19 @@
 -- From commands to lines: each subpath that they mean is a closed run, so that an accepted call on it is watertight. Assumes nothing.
 use Prim.Native.Nat.{ℕ, suc, _+_, _-_, _*_, _%_, _^_, _<_, _≤_}
 use mathlib.Core.Path.{_≡_, refl, sym, ap, _∙_, subst}
-use mathlib.Core.Bool.{Bool, true, false, _&&_, cond}
+use mathlib.Core.Bool.{Bool, true, false}
 use mathlib.Core.List.{List, [], _∷_, _++_}
 use native.Mathlib.Omega.{arith}
-use lib.Dec.{eqb, leb, lit<}
+use lib.Dec.{eqb, lit<}
 use lib.ListN.{length, getD, take, drop, length-append}
 use lib.Seq.{getD-take, getD-drop}
-use Rattle.refusals.specs.Refusals.{Read, found, refused}
-use Rattle.refusals.specs.declared.Refusal.the-variants.{NoBox}
+use Rattle.refusals.specs.Refusals.{found}
 use Rattle.scene.specs.Tags.{bit, tagData}
 use Rattle.scene.specs.Reading.{f32Point, pointWords, pointAt, flagsOf}
 use Rattle.scene.specs.Fresh.{byteOf, sumsTo}
 use Rattle.scene.specs.FreshLaws.{sums-at, fresh-tag}
 use Rattle.scene.specs.declared.tags.PathTagData.{PathTagData}
-use Rattle.flatten.specs.Tag.{_>>=_, isPath, boxed, headAt}
-use Rattle.flatten.specs.declared.tag.Head.{Head}
+use Rattle.flatten.specs.Found.{HeadParts, head-parts}
 use Rattle.pattern.specs.Commands.{same, wordsOf, numbers, Segment, line, quad, cubic, spots, target, Command}
 use Rattle.pattern.specs.Commands as commands
 use Rattle.pattern.specs.Meaning.{Subpath, endOf, allSpots, segmentTags, tagsOf}
@@ -30,29 +28,7 @@ use Rattle.watertight.specs.Accepted.{done}
 use Rattle.watertight.specs.Watertight.{watertight, watertight-stored}
 use Rattle.outlines.specs.Placing.{left, subpaths, Finished, tagWords, FreshCall, dataAt, transformAt, styleAt, FillAt, Placed, tagsFrom, outlines, ClosedRun, Watertight}
 use Rattle.outlines.specs.Walk.{tagByte, Drawn, Walk, Walks}
-use Rattle.outlines.specs.Decode.{readTag, byte-is, length-tags, walked}
-
--- ---- what an accepted call read of a tag
-
--- the head is the tag and the flags that were read
-boxed-is : (n : ℕ) (k h : Head) → boxed n k ≡ found h → k ≡ h
-unfolding boxed
-boxed-is n k h = go (isPath k && leb n (k .tag .monoid .«path_ix»))
-  where
-    go : (b : Bool) → cond b (refused NoBox) (found k) ≡ found h → k ≡ h
-    go true e = let z : _≡_ {A = ℕ} 0 1 = cc in absurd (omega arith)
-    go false e = cc
-
-with-flags : (d : PathTagData) (n : ℕ) (h : Head) (r : Read ℕ) → (r >>= λ w. boxed n (record { tag = d; flags = w })) ≡ found h → (d ≡ h .tag) × (r ≡ found (h .flags))
-unfolding _>>=_
-with-flags d n h (found w) e = let k = boxed-is n (record { tag = d; flags = w }) h e in (ap (λ (k : Head). k .tag) k, ap (λ (k : Head). found (k .flags)) k)
-with-flags d n h (refused why) e = let z : _≡_ {A = ℕ} 0 1 = cc in absurd (omega arith)
-
-head-parts : (t : Read PathTagData) (flags : PathTagData → Read ℕ) (n : ℕ) (h : Head)
-    → (t >>= λ d. flags d >>= λ w. boxed n (record { tag = d; flags = w })) ≡ found h → (t ≡ found (h .tag)) × (flags (h .tag) ≡ found (h .flags))
-unfolding _>>=_
-head-parts (found d) flags n h e = let k = with-flags d n h (flags d) e in (ap found (k .0), ap flags (sym (k .0)) ∙ k .1)
-head-parts (refused why) flags n h e = let z : _≡_ {A = ℕ} 0 1 = cc in absurd (omega arith)
+use Rattle.outlines.specs.Decode.{byte-is, length-tags, walked}
 
 -- a word that was found stands in the scene
 word-there : (n d j : ℕ) (scene ws : List ℕ) → take n (drop d scene) ≡ ws → j < n → getD scene (d + j) 0 ≡ getD ws j 0
@@ -65,14 +41,13 @@ module _ (c : Call) (a : Accepted c) (f : FreshCall c) (at : ℕ) (fill : FillAt
   sixWords = take 6 (drop (c .layout .«transform_base» + transformAt c at * 6) (c .scene))
 
   module _ (i : ℕ) (in-call : i < tags c) (p : Spot) (g : Segment) (last : Bool) (d : Drawn c at i p g last) where
-    parts : (readTag c i ≡ found (headOf c i .tag)) × (flagsOf (c .scene) (c .layout .«style_base») (headOf c i .tag .monoid .«style_ix») ≡ found (headOf c i .flags))
-    unfolding headAt
-    parts = head-parts (readTag c i) (λ t. flagsOf (c .scene) (c .layout .«style_base») (t .monoid .«style_ix»)) (length (c .boxes)) (headOf c i) (done c a .sound i in-call .head)
+    parts : HeadParts (c .layout) (c .scene) (c .prefixes) (length (c .boxes)) i (headOf c i)
+    parts = head-parts (c .layout) (c .scene) (c .prefixes) (length (c .boxes)) i (headOf c i) (done c a .sound i in-call .head)
 
     its-tag : headOf c i .tag ≡ tagData (tagByte g last) (sumsTo (tagWords c) i)
     its-tag =
         let some = subst (λ (b : ℕ). eqb b 0 ≡ false) (sym (d .byte)) (byte-is g last .some) in
-        fresh-tag (c .scene) (c .layout .«tag_base») (c .prefixes) f i (headOf c i .tag) (parts .0) .1
+        fresh-tag (c .scene) (c .layout .«tag_base») (c .prefixes) f i (headOf c i .tag) (parts .tag) .1
         ∙ ap (tagData (byteOf (tagWords c) i)) (sums-at (tagWords c) i some)
         ∙ ap (λ (b : ℕ). tagData b (sumsTo (tagWords c) i)) (d .byte)
 
@@ -83,7 +58,7 @@ module _ (c : Call) (a : Accepted c) (f : FreshCall c) (at : ℕ) (fill : FillAt
         let there : styleAt c i ≡ styleAt c at = ap (λ (n : ℕ). (n + (2 ^ 32 - 2)) % 2 ^ 32) (d .under .style) in
         let k : flagsOf (c .scene) (c .layout .«style_base») (headOf c i .tag .monoid .«style_ix») ≡ found (fill .flags) =
         ap (flagsOf (c .scene) (c .layout .«style_base»)) (style ∙ there) ∙ fill .read in
-        cc (parts .1)
+        cc (parts .flags)
 
     its-type : typeOf c i ≡ length (spots g)
     unfolding tagData

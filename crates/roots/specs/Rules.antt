@@ -3,10 +3,10 @@
 use mathlib.Core.Path.{_≡_, refl, ap, _∙_}
 use mathlib.Core.Bool.{Bool, true, false}
 use Prim.Native.Nat.{ℕ, zero, suc, _+_, _*_, _/_, _^_, _≤_}
-use native.Mathlib.Nat.{zero-mul, zero-div}
+use native.Mathlib.Nat.{add-comm, zero-mul, zero-div}
 use lib.IntN.{ℤ, pos}
 use lib.Dec.{T, lit<}
-use lib.Ieee.{Float, nan, inf, fin, up, down}
+use lib.Ieee.{Float, nan, inf, fin, up, down, neg}
 use Rattle.laws.specs.Compare.{underZero}
 use Rattle.laws.specs.Only.{Only, determined}
 use Rattle.roots.specs.Root.{mag, nearestRoot, sqrtOf, cbrtOf, twoThirdsOf, hypotOf}
@@ -135,6 +135,19 @@ unfolding nearestRoot
 root-of-none = refl
 
 -- of two zeros, +0
+-- turned by a quarter, a pair has the same hypotenuse
+pub hypot-turned : (x y : Float) → hypotOf (neg y) x ≡ hypotOf x y
+unfolding hypotOf neg
+hypot-turned nan nan = refl
+hypot-turned nan (inf t) = refl
+hypot-turned nan (fin t n d) = refl
+hypot-turned (inf s) nan = refl
+hypot-turned (inf s) (inf t) = refl
+hypot-turned (inf s) (fin t n d) = refl
+hypot-turned (fin s m e) nan = refl
+hypot-turned (fin s m e) (inf t) = refl
+hypot-turned (fin s m e) (fin t n d) = ap (nearestRoot false 2) (add-comm (mag n d * mag n d) (mag m e * mag m e))
+
 pub hypot-zeros : (s : Bool) (e : ℤ) (t : Bool) (d : ℤ) → hypotOf (fin s zero e) (fin t zero d) ≡ fin false 0 (pos 0)
 unfolding hypotOf
 hypot-zeros s e t d =

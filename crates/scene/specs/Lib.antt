@@ -4,5 +4,6 @@ pub mod Reading
 pub mod Fresh
 pub mod FreshLaws
 pub mod Early
+pub mod Points
 pub mod Only
 pub mod Examples

@@ -26,7 +26,7 @@ use Rattle.flatten.specs.declared.call.Stop.the-variants as stop
 use Rattle.flatten.specs.declared.call.Told.{Told}
 use Rattle.flatten.specs.declared.tag.Head.{Head}
 use Rattle.watertight.specs.Balance.{AllLines}
-use Rattle.watertight.specs.Fill.{Call, Accepted, outcome, tags, readHead, readEvents, headOr, eventsOr, headOf, drawnAt, countBefore}
+use Rattle.watertight.specs.Fill.{Call, Accepted, outcome, tags, readHead, readEvents, headOr, eventsOr, headOf, pathAt, drawnAt, countBefore}
 use Rattle.watertight.specs.Steps.{not-going, Halts, Goes, turns}
 
 -- ---- lists
@@ -48,7 +48,7 @@ up-to P k f p i h = elim (ℕ-discrete i k) [ yes e ↦ subst P (sym e) p | no n
 
 -- the words of tag i's lines, and of those of all tags before it
 unfoldable pub recordsAt : Call → ℕ → List ℕ
-recordsAt c i = recordsOf (headOf c i .tag .monoid .«path_ix») (tagWord i) (length (drawnAt c i)) (drawnAt c i)
+recordsAt c i = recordsOf (pathAt c i) (tagWord i) (length (drawnAt c i)) (drawnAt c i)
 
 unfoldable pub recordsBefore : Call → ℕ → List ℕ
 recordsBefore c zero = []
@@ -75,7 +75,7 @@ module _ (c : Call) where
   unfolding recordsBefore countBefore recordsAt
   length-before zero f = refl
   length-before (suc k) f =
-      omega (arith, length-append (recordsBefore c k) (recordsAt c k), length-before k (λ i h. f i (omega arith)), length-records (headOf c k .tag .monoid .«path_ix») (tagWord k) (drawnAt c k) (f k (omega arith) .lines))
+      omega (arith, length-append (recordsBefore c k) (recordsAt c k), length-before k (λ i h. f i (omega arith)), length-records (pathAt c k) (tagWord k) (drawnAt c k) (f k (omega arith) .lines))
 
   -- ---- the tags one after the other
 

@@ -1,15 +1,18 @@
 -- What a chain of lines leaves of the difference between starts and ends, and that lines and their records count the same. Assumes nothing.
-use Prim.Native.Nat.{ℕ, _+_}
-use mathlib.Core.Path.{_≡_, refl, sym, ap}
-use mathlib.Core.Bool.{false}
+use Prim.Native.Nat.{ℕ, suc, _+_}
+use mathlib.Core.Path.{_≡_, refl, sym, ap, _∙_}
+use mathlib.Core.Bool.{Bool, false}
 use mathlib.Core.List.{List, [], _∷_, _++_}
+use native.Mathlib.Nat.{zero-add}
 use native.Mathlib.Omega.{arith}
-use lib.ListN.{length}
+use lib.ListN.{length, drop}
+use Rattle.records.specs.Record.{placeOf, word, once, tallyOf}
+use Rattle.records.specs.RecordLaws.{tally-behind}
 use Rattle.spiral.specs.declared.util.Vec2.{Vec2}
-use Rattle.drawing.specs.Sheet.{Event, line, noCount, noJoin}
+use Rattle.drawing.specs.Sheet.{Event, line, noCount, noJoin, recordOf}
 use Rattle.drawing.specs.Stands.{recordsOf}
 use Rattle.curve.specs.Chain.{Chain}
-use Rattle.watertight.specs.Count.{isAt, starts, ends, among}
+use Rattle.watertight.specs.Count.{startsBy, endsBy, oneWhere}
 
 -- no stop among them
 unfoldable pub AllLines : List Event → Type 0
@@ -19,37 +22,50 @@ AllLines (noCount ∷ es) = ⊥
 AllLines (noJoin ∷ es) = ⊥
 
 -- a chain from a to b: each point is a start as often as an end, but that a is once more a start and b once more an end
-pub open-ends : (x y : ℕ) (a b : Vec2) (es : List Event) → AllLines es → Chain false a b es → starts x y es + isAt x y b ≡ ends x y es + isAt x y a
-unfolding starts ends AllLines Chain
-open-ends x y a b [] l h = ap (λ (p : Vec2). 0 + isAt x y p) (sym h)
-open-ends x y a b (line p q ∷ es) l h =
-    let k = open-ends x y q b es l (h .1) in
-    let e : isAt x y p ≡ isAt x y a = ap (λ (p : Vec2). isAt x y p) (h .0) in
+pub open-ends : (f : Vec2 → ℕ) (a b : Vec2) (es : List Event) → AllLines es → Chain false a b es → startsBy f es + f b ≡ endsBy f es + f a
+unfolding startsBy endsBy AllLines Chain
+open-ends f a b [] l h = ap (λ (p : Vec2). 0 + f p) (sym h)
+open-ends f a b (line p q ∷ es) l h =
+    let k = open-ends f q b es l (h .1) in
+    let e : f p ≡ f a = ap f (h .0) in
     omega arith
-open-ends x y a b (noCount ∷ es) l h = absurd l
-open-ends x y a b (noJoin ∷ es) l h = absurd l
+open-ends f a b (noCount ∷ es) l h = absurd l
+open-ends f a b (noJoin ∷ es) l h = absurd l
+
+-- the first record, and then those behind it
+first-and : (is : ℕ → ℕ → ℕ → Bool) (at n : ℕ) (ws : List ℕ)
+    → tallyOf is at ws (suc n) ≡ once (is (word ws 0 0) (word ws 0 at) (word ws 0 (at + 1))) + tallyOf is at (drop (placeOf 1) ws) n
+unfolding tallyOf
+first-and is at n ws = ap (tallyOf is at ws) sum ∙ tally-behind is at ws 1 n ∙ ap (λ (t : ℕ). t + tallyOf is at (drop (placeOf 1) ws) n) (zero-add _)
+  where
+    sum : suc n ≡ 1 + n
+    sum = omega arith
 
 -- lines and their records
-pub in-records : (x y path tag : ℕ) (es : List Event) (ws : List ℕ) → AllLines es
-    → (among 2 x y (length es) (recordsOf path tag (length es) es ++ ws) ≡ starts x y es) × (among 4 x y (length es) (recordsOf path tag (length es) es ++ ws) ≡ ends x y es)
-unfolding among recordsOf starts ends AllLines
-in-records x y path tag [] ws l = (refl, refl)
-in-records x y path tag (line p q ∷ es) ws l =
-    let h = in-records x y path tag es ws l in
-    (ap (λ (n : ℕ). isAt x y p + n) (h .0), ap (λ (n : ℕ). isAt x y q + n) (h .1))
-in-records x y path tag (noCount ∷ es) ws l = absurd l
-in-records x y path tag (noJoin ∷ es) ws l = absurd l
+pub in-records : (is : ℕ → ℕ → ℕ → Bool) (path tag : ℕ) (es : List Event) (ws : List ℕ) → AllLines es
+    → (tallyOf is 2 (recordsOf path tag (length es) es ++ ws) (length es) ≡ startsBy (oneWhere is path) es)
+    × (tallyOf is 4 (recordsOf path tag (length es) es ++ ws) (length es) ≡ endsBy (oneWhere is path) es)
+unfolding tallyOf recordsOf startsBy endsBy AllLines
+in-records is path tag [] ws l = (refl, refl)
+in-records is path tag (line p q ∷ es) ws l =
+    let h = in-records is path tag es ws l in
+    let all = recordOf path tag p q ++ recordsOf path tag (length es) es ++ ws in (
+      first-and is 2 (length es) all ∙ ap (λ (n : ℕ). oneWhere is path p + n) (h .0),
+      first-and is 4 (length es) all ∙ ap (λ (n : ℕ). oneWhere is path q + n) (h .1),
+    )
+in-records is path tag (noCount ∷ es) ws l = absurd l
+in-records is path tag (noJoin ∷ es) ws l = absurd l
 
-pub starts-append : (x y : ℕ) (xs ys : List Event) → starts x y (xs ++ ys) ≡ starts x y xs + starts x y ys
-unfolding starts
-starts-append x y [] ys = omega arith
-starts-append x y (line p q ∷ xs) ys = omega (arith, starts-append x y xs ys)
-starts-append x y (noCount ∷ xs) ys = starts-append x y xs ys
-starts-append x y (noJoin ∷ xs) ys = starts-append x y xs ys
+pub starts-append : (f : Vec2 → ℕ) (xs ys : List Event) → startsBy f (xs ++ ys) ≡ startsBy f xs + startsBy f ys
+unfolding startsBy
+starts-append f [] ys = omega arith
+starts-append f (line p q ∷ xs) ys = omega (arith, starts-append f xs ys)
+starts-append f (noCount ∷ xs) ys = starts-append f xs ys
+starts-append f (noJoin ∷ xs) ys = starts-append f xs ys
 
-pub ends-append : (x y : ℕ) (xs ys : List Event) → ends x y (xs ++ ys) ≡ ends x y xs + ends x y ys
-unfolding ends
-ends-append x y [] ys = omega arith
-ends-append x y (line p q ∷ xs) ys = omega (arith, ends-append x y xs ys)
-ends-append x y (noCount ∷ xs) ys = ends-append x y xs ys
-ends-append x y (noJoin ∷ xs) ys = ends-append x y xs ys
+pub ends-append : (f : Vec2 → ℕ) (xs ys : List Event) → endsBy f (xs ++ ys) ≡ endsBy f xs + endsBy f ys
+unfolding endsBy
+ends-append f [] ys = omega arith
+ends-append f (line p q ∷ xs) ys = omega (arith, ends-append f xs ys)
+ends-append f (noCount ∷ xs) ys = ends-append f xs ys
+ends-append f (noJoin ∷ xs) ys = ends-append f xs ys

@@ -1,35 +1,41 @@
--- How often a device point, by its bits, is the start of a line and how often an end: among lines, and among their records. Definitions only.
-use Prim.Native.Nat.{ℕ, zero, suc, _+_}
-use mathlib.Core.Bool.{Bool, true, false, _&&_}
+-- How often a device point, by its bits, is the start of a line and how often an end. Definitions only.
+use Prim.Native.Nat.{ℕ, _+_}
+use mathlib.Core.Bool.{Bool, _&&_}
 use mathlib.Core.List.{List, [], _∷_}
 use lib.Dec.{eqb}
-use lib.ListN.{getD, drop}
 use lib.Ieee.{binary32, toBits}
+use Rattle.records.specs.Record.{once}
 use Rattle.spiral.specs.declared.util.Vec2.{Vec2}
 use Rattle.drawing.specs.Sheet.{Event, line, noCount, noJoin}
 
--- 1 where it holds, else 0
-unfoldable pub once : Bool → ℕ
-once true = 1
-once false = 0
+-- the sum of what f gives for the start of each line
+unfoldable pub startsBy : (Vec2 → ℕ) → List Event → ℕ
+startsBy f [] = 0
+startsBy f (line p q ∷ es) = f p + startsBy f es
+startsBy f (noCount ∷ es) = startsBy f es
+startsBy f (noJoin ∷ es) = startsBy f es
+
+-- and for its end
+unfoldable pub endsBy : (Vec2 → ℕ) → List Event → ℕ
+endsBy f [] = 0
+endsBy f (line p q ∷ es) = f q + endsBy f es
+endsBy f (noCount ∷ es) = endsBy f es
+endsBy f (noJoin ∷ es) = endsBy f es
+
+-- 1 where it holds of the path and of the point's bits, else 0
+abbrev pub oneWhere : (ℕ → ℕ → ℕ → Bool) → ℕ → Vec2 → ℕ
+oneWhere is path p = once (is path (toBits binary32 (p .x)) (toBits binary32 (p .y)))
+
+-- the two words are x and y, whatever the path
+abbrev pub bitsAre : ℕ → ℕ → ℕ → ℕ → ℕ → Bool
+bitsAre x y path a b = eqb a x && eqb b y
 
 -- 1 where the point's bits are the words x and y, else 0
 abbrev pub isAt : ℕ → ℕ → Vec2 → ℕ
 isAt x y p = once (eqb (toBits binary32 (p .x)) x && eqb (toBits binary32 (p .y)) y)
 
-unfoldable pub starts : ℕ → ℕ → List Event → ℕ
-starts x y [] = 0
-starts x y (line p q ∷ es) = isAt x y p + starts x y es
-starts x y (noCount ∷ es) = starts x y es
-starts x y (noJoin ∷ es) = starts x y es
+abbrev pub starts : ℕ → ℕ → List Event → ℕ
+starts x y = startsBy (isAt x y)
 
-unfoldable pub ends : ℕ → ℕ → List Event → ℕ
-ends x y [] = 0
-ends x y (line p q ∷ es) = isAt x y q + ends x y es
-ends x y (noCount ∷ es) = ends x y es
-ends x y (noJoin ∷ es) = ends x y es
-
--- how often the words x and y stand side by side at the place `at` of the first n records, of six words each: a line's start stands at place 2, its end at place 4
-unfoldable pub among : ℕ → ℕ → ℕ → ℕ → List ℕ → ℕ
-among at x y zero ws = 0
-among at x y (suc n) ws = once (eqb (getD ws at 0) x && eqb (getD ws (at + 1) 0) y) + among at x y n (drop 6 ws)
+abbrev pub ends : ℕ → ℕ → List Event → ℕ
+ends x y = endsBy (isAt x y)

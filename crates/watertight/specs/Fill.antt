@@ -1,10 +1,11 @@
 -- A call, what each of its tags draws, which of them are filled segments, and closed runs of these. Definitions only.
 use Prim.Native.Nat.{ℕ, zero, suc, _+_, _*_, _%_, _^_, _<_}
 use mathlib.Core.Path.{_≡_}
-use mathlib.Core.Bool.{false}
+use mathlib.Core.Bool.{Bool, false}
 use mathlib.Core.List.{List, [], _∷_, _++_}
 use lib.Dec.{T, eqb}
 use lib.ListN.{length, take, drop}
+use Rattle.records.specs.Record.{placeOf, tallyOf}
 use Rattle.spiral.specs.Util.{eqOf}
 use Rattle.spiral.specs.declared.util.Vec2.{Vec2}
 use Rattle.refusals.specs.Refusals.{Read, found, refused}
@@ -17,7 +18,7 @@ use Rattle.flatten.specs.Call.{Outcome, said, callOf}
 use Rattle.flatten.specs.declared.boxes.PathBox.{PathBox}
 use Rattle.flatten.specs.declared.call.Layout.{Layout}
 use Rattle.flatten.specs.declared.tag.Head.{Head}
-use Rattle.watertight.specs.Count.{among}
+use Rattle.watertight.specs.Count.{bitsAre}
 
 -- ---- a call: what it is given, and what it is lent
 
@@ -61,6 +62,9 @@ eventsOr (refused why) = []
 -- the tag with its style's flags
 unfoldable pub headOf : Call → ℕ → Head
 headOf c i = headOr (readHead c i)
+
+abbrev pub pathAt : Call → ℕ → ℕ
+pathAt c i = headOf c i .tag .monoid .«path_ix»
 
 unfoldable pub drawnAt : Call → ℕ → List Event
 drawnAt c i = eventsOr (readHead c i >>= readEvents c i)
@@ -140,7 +144,15 @@ unfoldable pub countBefore : Call → ℕ → ℕ
 countBefore c zero = 0
 countBefore c (suc i) = countBefore c i + length (drawnAt c i)
 
--- how often the words x and y stand at a place of the records of these tags; the records of a tag stand behind those of all tags before it
-unfoldable pub stored : Call → ℕ → ℕ → ℕ → List ℕ → ℕ
-stored c at x y [] = 0
-stored c at x y (i ∷ is) = among at x y (length (drawnAt c i)) (drop (countBefore c i * 6) (outcome c .lines)) + stored c at x y is
+-- the records of a tag stand behind those of all tags before it
+abbrev pub recordsFrom : Call → ℕ → List ℕ
+recordsFrom c i = drop (placeOf (countBefore c i)) (outcome c .lines)
+
+-- of how many records of these tags it holds that `is` is true of the path and of the words at a place
+unfoldable pub storedBy : Call → (ℕ → ℕ → ℕ → Bool) → ℕ → List ℕ → ℕ
+storedBy c is at [] = 0
+storedBy c is at (i ∷ js) = tallyOf is at (recordsFrom c i) (length (drawnAt c i)) + storedBy c is at js
+
+-- how often the words x and y stand side by side at a place of the records of these tags: a line's start stands at place 2, its end at place 4
+abbrev pub stored : Call → ℕ → ℕ → ℕ → List ℕ → ℕ
+stored c at x y = storedBy c (bitsAre x y) at

@@ -1,16 +1,14 @@
 -- What a filled segment draws is one chain, from its first point to its last. Assumes nothing.
 use Prim.Native.Nat.{ℕ, zero, suc, _+_, _*_, _%_, _^_, _<_, _≤_}
 use mathlib.Core.Path.{_≡_, refl, ap, _∙_, subst}
-use mathlib.Core.Bool.{Bool, true, false, _&&_, cond}
+use mathlib.Core.Bool.{Bool, true, false}
 use mathlib.Core.List.{List, [], _∷_}
 use native.Mathlib.Omega.{arith}
 use native.Mathlib.Nat.{mod-lt}
-use lib.Dec.{T, eqb, leb, ltb, lit<}
-use lib.ListN.{length, getD, take, drop, replicate}
+use lib.Dec.{eqb, lit<}
+use lib.ListN.{length, getD, take, drop}
 use lib.Seq.{getD-take, getD-drop}
-use lib.Ieee.{Float, binary32, fits, round, eq}
-use lib.Ieee.Bits.{ofBits-fits}
-use lib.Ieee.Fits.{cond-fits, ofInt-fits, neg-fits}
+use lib.Ieee.{Float, round, eq}
 use Rattle.laws.specs.Binary32.{whole}
 use Rattle.spiral.specs.Points.{FitsPoint}
 use Rattle.spiral.specs.declared.util.Vec2.{Vec2}
@@ -19,26 +17,16 @@ use Rattle.drawing.specs.Cubic.{point}
 use Rattle.curve.specs.Chain.{Chain, written, fill-chain}
 use Rattle.curve.specs.Bounds.{lines-at-most}
 use Rattle.segment.specs.Segment.{fillEvents, shapeEvents}
-use Rattle.scene.specs.Reading.{f32Point, i16Of, i16Point, wide, pointWords, pointAt, lineCubic, quadCubic, origin, raised, cubicOf, reaches, segmentOf, floatsAt, transformOf, allFinite}
+use Rattle.scene.specs.Reading.{wide, pointWords, pointAt, lineCubic, quadCubic, raised, cubicOf, floatsAt}
+use Rattle.scene.specs.Points.{point-fits}
+use Rattle.segment.specs.declared.Shape.{Shape}
 use Rattle.segment.specs.declared.Shape.the-variants.{Fill}
-use Rattle.scene.specs.declared.reading.SegmentRead.{SegmentRead}
-use Rattle.scene.specs.declared.reading.TransformRead.{TransformRead}
-use Rattle.refusals.specs.Refusals.{found, refused}
-use Rattle.refusals.specs.declared.Refusal.the-variants.{BadTransform}
-use Rattle.flatten.specs.Tag.{inside, _>>=_, finiteOnly, eventsBy, eventsAt, shapeAt, isStroke}
+use Rattle.refusals.specs.Refusals.{found}
+use Rattle.flatten.specs.Tag.{eventsAt, shapeAt, isStroke}
+use Rattle.flatten.specs.Found.{parts}
 use Rattle.flatten.specs.declared.call.Layout.{Layout}
 use Rattle.flatten.specs.declared.tag.Head.{Head}
 use Rattle.watertight.specs.Fill.{Call, readEvents, headOf, typeOf, pointOf, firstOf, lastOf, transformWords, writtenBy}
-
--- ---- the points are numbers of binary32
-i16-fits : (h : ℕ) → T (fits binary32 (i16Of h))
-unfolding i16Of
-i16-fits h = cond-fits binary32 (ltb h 0x8000) _ _ (ofInt-fits binary32 _) (neg-fits binary32 _ (ofInt-fits binary32 _))
-
-point-fits : (w : Bool) (ws : List ℕ) (at : ℕ) → FitsPoint (pointAt w ws at)
-unfolding pointAt f32Point i16Point
-point-fits true ws at = (ofBits-fits binary32 _, ofBits-fits binary32 _)
-point-fits false ws at = (i16-fits _, i16-fits _)
 
 -- ---- the cubic of a segment starts at its first point and ends at its last
 ends-of : (k : ℕ) (p : ℕ → Vec2) → eqb k 0 ≡ false → k < 4 → (point (raised k false p) 0 ≡ p 0) × (point (raised k false p) 3 ≡ p k)
@@ -61,56 +49,23 @@ unfolding floatsAt
 six-words ws at =
     cc (here ws at, word-of ws at 0 (lit< tt), word-of ws at 1 (lit< tt), word-of ws at 2 (lit< tt), word-of ws at 3 (lit< tt), word-of ws at 4 (lit< tt), word-of ws at 5 (lit< tt))
 
--- ---- what was read, where it was found
-found-z : (b : Bool) (z z' : List Float) → let r : TransformRead = cond b (record { found = true; z = z }) (record { found = false; z = z' }) in r .found ≡ true → r .z ≡ z
-found-z true z z' h = refl
-found-z false z z' h = let y : _≡_ {A = ℕ} 0 1 = cc in absurd (omega arith)
-
-found-points : (b : Bool) (ps ps' : List Vec2) → let r : SegmentRead = cond b (record { found = true; points = ps }) (record { found = false; points = ps' }) in r .found ≡ true → r .points ≡ ps
-found-points true ps ps' h = refl
-found-points false ps ps' h = let y : _≡_ {A = ℕ} 0 1 = cc in absurd (omega arith)
-
-pub transform-read : (scene : List ℕ) (base ix : ℕ) → transformOf scene base ix .found ≡ true → transformOf scene base ix .z ≡ floatsAt scene (base + ix * 6)
-unfolding transformOf
-transform-read scene base ix = found-z (ltb (base + ix * 6) (2 ^ 32) && leb (base + ix * 6 + 6) (length scene)) (floatsAt scene (base + ix * 6)) (replicate 6 (whole 0))
-
-segment-read : (byte offset : ℕ) (scene : List ℕ) (base : ℕ) → segmentOf byte false offset scene base .found ≡ true
-    → segmentOf byte false offset scene base .points ≡ cubicOf (byte % 4) false scene (wide byte) (base + offset)
-unfolding segmentOf
-segment-read byte offset scene base =
-    found-points (reaches (byte % 4) (wide byte) offset scene base) (cubicOf (byte % 4) false scene (wide byte) (base + offset)) (origin ∷ origin ∷ origin ∷ origin ∷ [])
-
-both-read : (a : TransformRead) (b : SegmentRead) (flags : ℕ) (es : List Event)
-    → (inside (a .found) (a .z) >>= finiteOnly >>= λ z. inside (b .found) (b .points) >>= λ ps. found Fill >>= λ s. found (shapeEvents s flags z ps)) ≡ found es
-    → (a .found ≡ true) × (b .found ≡ true) × (fillEvents (a .z) (b .points) ≡ es)
-unfolding _>>=_ shapeEvents finiteOnly
-both-read a b flags es = go (a .found) (b .found)
-  where
-    with-z : (f t : Bool) → (cond f (found (a .z)) (refused BadTransform) >>= λ z. inside t (b .points) >>= λ ps. found Fill >>= λ s. found (shapeEvents s flags z ps)) ≡ found es
-        → (t ≡ true) × (fillEvents (a .z) (b .points) ≡ es)
-    with-z true true h = (refl, cc)
-    with-z true false h = let y : _≡_ {A = ℕ} 0 1 = cc in absurd (omega arith)
-    with-z false t h = let y : _≡_ {A = ℕ} 0 1 = cc in absurd (omega arith)
-
-    go : (s t : Bool) → (inside s (a .z) >>= finiteOnly >>= λ z. inside t (b .points) >>= λ ps. found Fill >>= λ s. found (shapeEvents s flags z ps)) ≡ found es
-        → (s ≡ true) × (t ≡ true) × (fillEvents (a .z) (b .points) ≡ es)
-    go true t h = let k = with-z (allFinite (a .z)) t h in (refl, k .0, k .1)
-    go false t h = let y : _≡_ {A = ℕ} 0 1 = cc in absurd (omega arith)
-
 -- ---- what a filled segment draws
+is-fill : (layout : Layout) (scene prefixes : List ℕ) (ix : ℕ) (h : Head) (s : Shape) → isStroke h ≡ false → shapeAt (isStroke h) layout scene prefixes ix h ≡ found s → s ≡ Fill
+unfolding shapeAt
+is-fill layout scene prefixes ix h s f e = filled (rw f at e)
+  where
+    filled : found Fill ≡ found s → s ≡ Fill
+    filled k = cc
+
 fill-events : (layout : Layout) (scene prefixes : List ℕ) (ix : ℕ) (h : Head) (es : List Event)
     → eqb (h .tag .«tag_byte» % 4) 0 ≡ false → isStroke h ≡ false → eventsAt layout scene prefixes ix h ≡ found es
     → fillEvents (floatsAt scene (layout .«transform_base» + h .tag .monoid .«trans_ix» * 6))
     (cubicOf (h .tag .«tag_byte» % 4) false scene (wide (h .tag .«tag_byte»)) (layout .«data_base» + h .tag .monoid .«pathseg_offset»))
     ≡ es
-unfolding eventsAt eventsBy shapeAt
+unfolding shapeEvents
 fill-events layout scene prefixes ix h es k f e =
-    let base = layout .«transform_base» in
-    let byte = h .tag .«tag_byte» in
-    let offset = h .tag .monoid .«pathseg_offset» in
-    let trans = h .tag .monoid .«trans_ix» in
-    let b = both-read (transformOf scene base trans) (segmentOf byte false offset scene (layout .«data_base»)) (h .flags) es (rw (k, f) at e) in
-    cc (transform-read scene base trans (b .0), segment-read byte offset scene (layout .«data_base») (b .1), b .2)
+    let p = parts layout scene prefixes ix h es k e in
+    rw (is-fill layout scene prefixes ix h (p .shape) f (p .read), f) at (p .drawn)
 
 zero-zero : eq (whole 0) (whole 0) ≡ true
 unfolding eq round

@@ -11,7 +11,7 @@ use Rattle.spiral.specs.Points.{FitsPoint, eq→same-point, apply-same, identit
 use Rattle.spiral.specs.declared.util.Vec2.{Vec2}
 use Rattle.drawing.specs.Sheet.{Event, line, noCount, noJoin}
 use Rattle.curve.specs.Chain.{Chain, chain-append, written}
-use Rattle.watertight.specs.Count.{isAt, starts, ends}
+use Rattle.watertight.specs.Count.{startsBy, endsBy}
 use Rattle.watertight.specs.Balance.{AllLines, open-ends}
 use Rattle.watertight.specs.Fill.{Call, drawnAt, firstOf, lastOf, Each, Meets, Follows, final, Closed, linesOf}
 use Rattle.watertight.specs.FillLaws.{points-fit}
@@ -48,12 +48,12 @@ module _ (c : Call) (z : List Float) where
       chain-append false _ _ _ (drawnAt c i) (linesOf c (j ∷ js)) (h .0 .chain) (rw (meets i j (m .0)) (run-chain j js (h .1) (m .1)))
 
   -- each point is a start as often as an end, but that the first is once more a start and the last once more an end
-  pub open-run : (i : ℕ) (js : List ℕ) → Each Leads (i ∷ js) → Follows c i js → (x y : ℕ)
-      → starts x y (linesOf c (i ∷ js)) + isAt x y (written z (lastOf c (final i js))) ≡ ends x y (linesOf c (i ∷ js)) + isAt x y (written z (firstOf c i))
-  open-run i js h m x y = open-ends x y _ _ (linesOf c (i ∷ js)) (run-lines (i ∷ js) h) (run-chain i js h m)
+  pub open-run : (i : ℕ) (js : List ℕ) → Each Leads (i ∷ js) → Follows c i js → (f : Vec2 → ℕ)
+      → startsBy f (linesOf c (i ∷ js)) + f (written z (lastOf c (final i js))) ≡ endsBy f (linesOf c (i ∷ js)) + f (written z (firstOf c i))
+  open-run i js h m f = open-ends f _ _ (linesOf c (i ∷ js)) (run-lines (i ∷ js) h) (run-chain i js h m)
 
   -- and these two are one where the last ends where the first began
-  pub closed-run : (i : ℕ) (js : List ℕ) → Each Leads (i ∷ js) → Follows c i js → Closed c i js → (x y : ℕ) → starts x y (linesOf c (i ∷ js)) ≡ ends x y (linesOf c (i ∷ js))
-  closed-run i js h m e x y =
-      let back : isAt x y (written z (lastOf c (final i js))) ≡ isAt x y (written z (firstOf c i)) = ap (λ (p : Vec2). isAt x y p) (meets (final i js) i e) in
-      omega (arith, open-run i js h m x y)
+  pub closed-run : (i : ℕ) (js : List ℕ) → Each Leads (i ∷ js) → Follows c i js → Closed c i js → (f : Vec2 → ℕ) → startsBy f (linesOf c (i ∷ js)) ≡ endsBy f (linesOf c (i ∷ js))
+  closed-run i js h m e f =
+      let back : f (written z (lastOf c (final i js))) ≡ f (written z (firstOf c i)) = ap f (meets (final i js) i e) in
+      omega (arith, open-run i js h m f)

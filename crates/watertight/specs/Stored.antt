@@ -1,15 +1,18 @@
 -- After an accepted call the records of its tags stand in the lent words, and count as their lines do. Assumes nothing.
 use Prim.Native.Nat.{ℕ, zero, suc, _*_, _<_}
-use mathlib.Core.Path.{_≡_, refl, ap, _∙_}
+use mathlib.Core.Path.{_≡_, refl, ap, _∙_, subst}
+use mathlib.Core.Bool.{Bool}
 use mathlib.Core.List.{List, [], _∷_, _++_, append-nil, append-assoc}
 use native.Mathlib.Omega.{arith}
 use native.Mathlib.Decide.{ℕ-discrete}
 use lib.ListN.{length, drop}
 use lib.Seq.{drop-at}
+use Rattle.records.specs.Record.{tallyOf}
+use Rattle.spiral.specs.declared.util.Vec2.{Vec2}
 use Rattle.flatten.specs.Step.{tagWord}
-use Rattle.watertight.specs.Count.{among, starts, ends}
+use Rattle.watertight.specs.Count.{startsBy, endsBy, oneWhere}
 use Rattle.watertight.specs.Balance.{in-records, starts-append, ends-append}
-use Rattle.watertight.specs.Fill.{Call, Accepted, outcome, tags, headOf, drawnAt, Filled, Each, linesOf, countBefore, stored}
+use Rattle.watertight.specs.Fill.{Call, Accepted, outcome, tags, pathAt, drawnAt, Each, linesOf, countBefore, recordsFrom, storedBy}
 use Rattle.watertight.specs.Accepted.{recordsAt, recordsBefore, length-before, done}
 
 module _ (c : Call) (accepted : Accepted c) where
@@ -45,23 +48,30 @@ module _ (c : Call) (accepted : Accepted c) where
         is = ap (drop (countBefore c i * 6)) all ∙ drop-at (recordsBefore c i) (recordsAt c i ++ behind) (countBefore c i * 6) (length-before c i (λ j l. d .sound j (omega arith)));
       }
 
-  module _ (x y : ℕ) where
-    abbrev Counts : ℕ → List ℕ → ℕ → ℕ → Type 0
-    Counts n ws s e = (among 2 x y n ws ≡ s) × (among 4 x y n ws ≡ e)
+  module _ (is : ℕ → ℕ → ℕ → Bool) where
+    abbrev Counts : ℕ → (Vec2 → ℕ) → Type 0
+    Counts i f =
+        (tallyOf is 2 (recordsFrom c i) (length (drawnAt c i)) ≡ startsBy f (drawnAt c i))
+        × (tallyOf is 4 (recordsFrom c i) (length (drawnAt c i)) ≡ endsBy f (drawnAt c i))
 
-    one : (i : ℕ) → i < tags c → Counts (length (drawnAt c i)) (drop (countBefore c i * 6) (outcome c .lines)) (starts x y (drawnAt c i)) (ends x y (drawnAt c i))
+    one : (i : ℕ) → i < tags c → Counts i (oneWhere is (pathAt c i))
     unfolding recordsAt
     one i h =
         let p = place i h in
-        rw (p .is) (in-records x y (headOf c i .tag .monoid .«path_ix») (tagWord i) (drawnAt c i) (p .rest) (done c accepted .sound i h .lines))
+        rw (p .is) (in-records is (pathAt c i) (tagWord i) (drawnAt c i) (p .rest) (done c accepted .sound i h .lines))
 
-    pub as-drawn : (z : List ℕ) (is : List ℕ) → Each (Filled c z) is
-        → (stored c 2 x y is ≡ starts x y (linesOf c is)) × (stored c 4 x y is ≡ ends x y (linesOf c is))
-    unfolding Each stored linesOf starts ends
-    as-drawn z [] h = (refl, refl)
-    as-drawn z (i ∷ is) h =
-        let o = one i (h .0 .in-call) in
-        let a = as-drawn z is (h .1) in (
-          omega (arith, o .0, a .0, starts-append x y (drawnAt c i) (linesOf c is)),
-          omega (arith, o .1, a .1, ends-append x y (drawnAt c i) (linesOf c is)),
-        )
+    module _ (f : Vec2 → ℕ) where
+      -- a tag of the call, whose lines are counted by f
+      pub record CountedBy (i : ℕ) : Type 0 where
+        pub in-call : i < tags c
+        pub path : oneWhere is (pathAt c i) ≡ f
+
+      pub as-drawn : (js : List ℕ) → Each CountedBy js → (storedBy c is 2 js ≡ startsBy f (linesOf c js)) × (storedBy c is 4 js ≡ endsBy f (linesOf c js))
+      unfolding Each storedBy linesOf startsBy endsBy
+      as-drawn [] h = (refl, refl)
+      as-drawn (i ∷ js) h =
+          let o : Counts i f = subst (Counts i) (h .0 .path) (one i (h .0 .in-call)) in
+          let a = as-drawn js (h .1) in (
+            omega (arith, o .0, a .0, starts-append f (drawnAt c i) (linesOf c js)),
+            omega (arith, o .1, a .1, ends-append f (drawnAt c i) (linesOf c js)),
+          )

@@ -1,0 +1,4 @@
+pub mod Verdict
+pub mod Search
+pub mod Laws
+pub mod Only

@@ -1,0 +1,4 @@
+pub mod Fills
+pub mod Sums
+pub mod Pass
+pub mod Enough

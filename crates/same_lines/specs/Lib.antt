@@ -1,0 +1,6 @@
+pub mod Conditions
+pub mod Sheets
+pub mod Sums
+pub mod Points
+pub mod Pairs
+pub mod Flattens

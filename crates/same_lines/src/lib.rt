@@ -1,0 +1,1 @@
+// A moved sheet gives the same lines: see specs/. There is no code here.

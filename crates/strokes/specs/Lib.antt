@@ -1,0 +1,12 @@
+pub mod Number
+pub mod Stroke
+pub mod Tight
+pub mod Turned
+pub mod Alike
+pub mod Leads
+pub mod Parts
+pub mod Sides
+pub mod Segments
+pub mod Reads
+pub mod NumberLaws
+pub mod Ends
