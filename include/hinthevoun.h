@@ -89,9 +89,9 @@ float hinth_acos(float x);
  * A stroked subpath ends with a marker, which has the end bit. Of an open one it is a quadratic: the subpath's start
  * again, and a point in the direction in which it began. Of a closed one it is a line to such a point.
  *
- * A list is lent as a pointer to its first element and then its number of elements: words for the lists of uint32_t and
- * uint64_t, records for the boxes. The pointer must be aligned and must not be null, also where the number is 0. A list
- * that is written must not overlap another one. `const` lists are only read.
+ * A list is lent as a pointer to its first element and then its number of elements: bytes for the lists of uint8_t,
+ * words for those of uint32_t, int32_t and uint64_t, records for the boxes. The pointer must be aligned and must not be
+ * null, also where the number is 0. A list that is written must not overlap another one. `const` lists are only read.
  *
  * The result is 0 if the call was accepted, or the number of its refusal:
  *
@@ -237,6 +237,51 @@ uint32_t hinth_cut(const uint32_t *list, size_t list_words, uint32_t path, uint8
  */
 uint32_t hinth_read_cut(const uint8_t *file, size_t n_bytes, int32_t *lines, size_t n_numbers, uint64_t *out,
                         size_t out_len);
+
+/*
+ * Drawing: moves, lines, quadratics, cubics and ends become the tag bytes and the f32 point words of fills, in lent
+ * buffers. docs/DRAWING.md shows a whole sheet. Transform, style and path tags stay with the caller: before the tags of
+ * a path goes 0x20 and 0x40 where a new transform and a new style hold, and behind them 0x10; the tags are then packed
+ * four to a word.
+ *
+ * The pen is HINTH_PEN words, lent with each command and written back when the command is accepted. Zeros are a fresh
+ * pen. Its words, in order: what is open (0 nothing, 1 moved, anything else drawing), the bits of x and y of the open
+ * subpath's first point and of its last, how many tag bytes and how many point words are written. Of the points' words
+ * only the low 32 bits are looked at. A pen can be made up: what it counts is never read or written outside the buffers.
+ *
+ * A move or an end finishes the open subpath: where its last point differs from its first (+0 equals -0), a line to the
+ * first point's bits is written; the end bit stands on the subpath's last segment. A move with no segment behind it
+ * writes nothing, and so does an end with nothing open. The start of a subpath is written with its first segment.
+ *
+ * The result is 0 if the command was accepted, or the number of its refusal, the first of these; after a refusal the
+ * pen and both buffers are as they were:
+ *
+ *   20  a line, quadratic or cubic with no move since the start or the last end
+ *   22  a coordinate that is a NaN or an infinity
+ *   21  no room for the tag and the points that this command itself writes, the closing line of a move or an end among
+ *       them; or a pen that counts more than is lent; or, before all others, fewer than HINTH_PEN words lent as the pen
+ */
+#define HINTH_PEN 7
+
+/* Begins a subpath at (x, y). */
+uint32_t hinth_move(uint64_t *pen, size_t pen_len, float x, float y, uint8_t *tags, size_t tags_len, uint32_t *points,
+                    size_t points_len);
+
+/* A line to (x, y). */
+uint32_t hinth_line(uint64_t *pen, size_t pen_len, float x, float y, uint8_t *tags, size_t tags_len, uint32_t *points,
+                    size_t points_len);
+
+/* A quadratic with the control point (x1, y1) to (x, y). */
+uint32_t hinth_quad(uint64_t *pen, size_t pen_len, float x1, float y1, float x, float y, uint8_t *tags,
+                    size_t tags_len, uint32_t *points, size_t points_len);
+
+/* A cubic with the control points (x1, y1) and (x2, y2) to (x, y). */
+uint32_t hinth_cubic(uint64_t *pen, size_t pen_len, float x1, float y1, float x2, float y2, float x, float y,
+                     uint8_t *tags, size_t tags_len, uint32_t *points, size_t points_len);
+
+/* Finishes the open subpath. The pen keeps its first and last point. */
+uint32_t hinth_end(uint64_t *pen, size_t pen_len, uint8_t *tags, size_t tags_len, uint32_t *points,
+                   size_t points_len);
 
 #ifdef __cplusplus
 }

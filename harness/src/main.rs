@@ -8,6 +8,7 @@ mod exact;
 mod ffi;
 mod half;
 mod interface;
+mod pattern;
 mod random;
 mod report;
 mod roots;
@@ -64,6 +65,7 @@ fn checks(extent: Extent, only: &str) -> ExitCode {
     angles::run(&mut report, extent);
     checker::run(&mut report, extent);
     sheets::run(&mut report, extent);
+    pattern::run(&mut report, extent);
     cuts::run(&mut report, extent);
     match report.close() {
         true => ExitCode::SUCCESS,

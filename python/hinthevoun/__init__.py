@@ -8,6 +8,9 @@ The functions are those of include/hinthevoun.h, one for one:
     cut, read_cut                                   a path's lines as HP-GL, and such a file back as lines
     sqrt, hypot, cbrt, two_thirds, half,
     sin, cos, atan2, asin, acos                     the mathematics, each answer an f32
+    move, line, quad, cubic, end                    drawing fills: from commands to tags and points, with a Pen
+
+Sheet draws a whole sheet with these: docs/DRAWING.md.
 
 A list is an array, bytes, a memoryview or any other buffer of 32-bit words; it is lent as it is, without a copy. A
 refusal is the exception Refusal. The triangle of docs/FLATLIST.md:
@@ -23,12 +26,15 @@ refusal is the exception Refusal. The triangle of docs/FLATLIST.md:
 from .calls import EMPTY_BOX, Layout, empty_boxes, flatten, scan
 from .checking import NotChecked, Verdict, check
 from .cutting import NotCut, cut, read_cut
+from .drawing import Sheet
 from .errors import NoLibrary, Wrong
 from .maths import acos, asin, atan2, cbrt, cos, half, hypot, sin, sqrt, two_thirds
 from .moving import Moved, NotMoved, to_f32, to_i16
+from .pattern import NotDrawn, Pen, cubic, end, line, move, quad
 from .refusals import Refusal
 
 __version__ = "0.1.0"
-__all__ = ["EMPTY_BOX", "Layout", "Moved", "NoLibrary", "NotChecked", "NotCut", "NotMoved", "Refusal", "Verdict",
-           "Wrong", "acos", "asin", "atan2", "cbrt", "check", "cos", "cut", "empty_boxes", "flatten", "half", "hypot",
-           "read_cut", "scan", "sin", "sqrt", "to_f32", "to_i16", "two_thirds"]
+__all__ = ["EMPTY_BOX", "Layout", "Moved", "NoLibrary", "NotChecked", "NotCut", "NotDrawn", "NotMoved", "Pen",
+           "Refusal", "Sheet", "Verdict", "Wrong", "acos", "asin", "atan2", "cbrt", "check", "cos", "cubic", "cut",
+           "empty_boxes", "end", "flatten", "half", "hypot", "line", "move", "quad", "read_cut", "scan", "sin", "sqrt",
+           "to_f32", "to_i16", "two_thirds"]

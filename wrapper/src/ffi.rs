@@ -204,3 +204,106 @@ pub fn read_cut(file: &[u8], lines: &mut [i32]) -> (u32, [u64; 2]) {
     };
     (number, out)
 }
+
+/// How many words a pen has.
+pub const PEN_WORDS: usize = 7;
+
+unsafe extern "C" {
+    fn hinth_move(
+        pen: *mut u64,
+        pen_len: usize,
+        x: f32,
+        y: f32,
+        tags: *mut u8,
+        tags_len: usize,
+        points: *mut u32,
+        points_len: usize,
+    ) -> u32;
+
+    fn hinth_line(
+        pen: *mut u64,
+        pen_len: usize,
+        x: f32,
+        y: f32,
+        tags: *mut u8,
+        tags_len: usize,
+        points: *mut u32,
+        points_len: usize,
+    ) -> u32;
+
+    fn hinth_quad(
+        pen: *mut u64,
+        pen_len: usize,
+        x1: f32,
+        y1: f32,
+        x: f32,
+        y: f32,
+        tags: *mut u8,
+        tags_len: usize,
+        points: *mut u32,
+        points_len: usize,
+    ) -> u32;
+
+    fn hinth_cubic(
+        pen: *mut u64,
+        pen_len: usize,
+        x1: f32,
+        y1: f32,
+        x2: f32,
+        y2: f32,
+        x: f32,
+        y: f32,
+        tags: *mut u8,
+        tags_len: usize,
+        points: *mut u32,
+        points_len: usize,
+    ) -> u32;
+
+    fn hinth_end(
+        pen: *mut u64,
+        pen_len: usize,
+        tags: *mut u8,
+        tags_len: usize,
+        points: *mut u32,
+        points_len: usize,
+    ) -> u32;
+}
+
+/// Calls a command with the pen, its coordinates and the two buffers.
+macro_rules! command {
+    ($symbol:ident, $pen:ident, [$($coordinate:expr),*], $tags:ident, $points:ident) => {
+        // SAFETY: as in `scan`; the three slices are borrowed mutably.
+        unsafe {
+            $symbol(
+                $pen.as_mut_ptr(),
+                $pen.len(),
+                $($coordinate,)*
+                $tags.as_mut_ptr(),
+                $tags.len(),
+                $points.as_mut_ptr(),
+                $points.len(),
+            )
+        }
+    };
+}
+
+pub fn pen_move(pen: &mut [u64], [x, y]: [f32; 2], tags: &mut [u8], points: &mut [u32]) -> u32 {
+    command!(hinth_move, pen, [x, y], tags, points)
+}
+
+pub fn pen_line(pen: &mut [u64], [x, y]: [f32; 2], tags: &mut [u8], points: &mut [u32]) -> u32 {
+    command!(hinth_line, pen, [x, y], tags, points)
+}
+
+pub fn pen_quad(pen: &mut [u64], [[x1, y1], [x, y]]: [[f32; 2]; 2], tags: &mut [u8], points: &mut [u32]) -> u32 {
+    command!(hinth_quad, pen, [x1, y1, x, y], tags, points)
+}
+
+pub fn pen_cubic(pen: &mut [u64], p: [[f32; 2]; 3], tags: &mut [u8], points: &mut [u32]) -> u32 {
+    let [[x1, y1], [x2, y2], [x, y]] = p;
+    command!(hinth_cubic, pen, [x1, y1, x2, y2, x, y], tags, points)
+}
+
+pub fn pen_end(pen: &mut [u64], tags: &mut [u8], points: &mut [u32]) -> u32 {
+    command!(hinth_end, pen, [], tags, points)
+}

@@ -24,6 +24,7 @@
 mod check;
 mod cut;
 mod ffi;
+pub mod pattern;
 mod sheets;
 
 pub use check::{CheckRefusal, Verdict, check};

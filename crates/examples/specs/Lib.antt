@@ -3,4 +3,5 @@ pub mod Triangle
 pub mod Passes
 pub mod Corner
 pub mod Moved
+pub mod Drawn
 pub mod ItsCut

@@ -2,5 +2,6 @@ pub mod Call
 pub mod Scan
 pub mod Convert
 pub mod Check
+pub mod Pen
 pub mod Only
 pub mod Cut

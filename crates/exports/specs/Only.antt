@@ -13,6 +13,7 @@ use Rattle.scene.specs.Tags.{scanOf}
 use Rattle.flatten.specs.declared.boxes.PathBox.{PathBox}
 use Rattle.flatten.specs.declared.call.Layout.{Layout}
 use Rattle.flatten.specs.Call.{callOf}
+use Rattle.pattern.specs.Commands.{Command, move, draw, end, line, quad, cubic}
 use Rattle.hpgl.specs.Export.{cutOf}
 use Rattle.hpgl.specs.Reading.{readingOf}
 use Rattle.exports.specs.Call.{reported, reportedOf}
@@ -25,6 +26,7 @@ use Rattle.exports.specs.Check.{twoOf, Checked}
 use Rattle.sheets.specs.Moving.{toF32, toI16}
 use Rattle.sheets.specs.Written.{stored}
 use Rattle.exports.specs.Convert.{moved, movedOf}
+use Rattle.exports.specs.Pen.{spotOf, penned, pennedBy}
 
 pub hinth-flatten-only : (layout : Layout) (scene prefixes : List ℕ) (ps : List PathBox) (ws os : List ℕ)
     → Only (λ (r : ℕ × (List PathBox × (List ℕ × List ℕ))). reported (r .0) (r .1 .0) (r .1 .1 .0) (r .1 .1 .1) ≡ reportedOf (callOf layout scene prefixes ps ws) os)
@@ -78,6 +80,32 @@ hinth-to-f32-only tags points ts ws os r s p q = let e = p ∙ sym q in λ i. (e
 pub hinth-to-i16-only : (tags points ts ws os : List ℕ)
     → Only (λ (r : ℕ × (List ℕ × (List ℕ × List ℕ))). moved (r .0) (r .1 .0) (r .1 .1 .0) (r .1 .1 .1) ≡ movedOf (stored (toI16 tags points (length ts) (length ws)) ts ws) os)
 hinth-to-i16-only tags points ts ws os r s p q = let e = p ∙ sym q in λ i. (e i .number, (e i .tags, (e i .points, e i .out)))
+
+-- a command of the pen, with the four that it may write
+abbrev pub Lent : Type 0
+Lent = ℕ × (List ℕ × (List ℕ × List ℕ))
+
+command-only : (ws : List ℕ) (command : Command) (tags points : List ℕ) → Only (λ (r : Lent). penned (r .0) (r .1 .0) (r .1 .1 .0) (r .1 .1 .1) ≡ pennedBy ws command tags points)
+command-only ws command tags points r s p q = let e = p ∙ sym q in λ i. (e i .number, (e i .pen, (e i .tags, e i .points)))
+
+module _ (ws tags points : List ℕ) where
+  abbrev pub Pens : Command → Lent → Type 0
+  Pens command r = penned (r .0) (r .1 .0) (r .1 .1 .0) (r .1 .1 .1) ≡ pennedBy ws command tags points
+
+  pub hinth-move-only : (x y : Float) → Only (Pens (move (spotOf x y)))
+  hinth-move-only x y = command-only ws (move (spotOf x y)) tags points
+
+  pub hinth-line-only : (x y : Float) → Only (Pens (draw (line (spotOf x y))))
+  hinth-line-only x y = command-only ws (draw (line (spotOf x y))) tags points
+
+  pub hinth-quad-only : (x1 y1 x y : Float) → Only (Pens (draw (quad (spotOf x1 y1) (spotOf x y))))
+  hinth-quad-only x1 y1 x y = command-only ws (draw (quad (spotOf x1 y1) (spotOf x y))) tags points
+
+  pub hinth-cubic-only : (x1 y1 x2 y2 x y : Float) → Only (Pens (draw (cubic (spotOf x1 y1) (spotOf x2 y2) (spotOf x y))))
+  hinth-cubic-only x1 y1 x2 y2 x y = command-only ws (draw (cubic (spotOf x1 y1) (spotOf x2 y2) (spotOf x y))) tags points
+
+  pub hinth-end-only : Only (Pens end)
+  hinth-end-only = command-only ws end tags points
 
 pub hinth-cut-only : (path : ℕ) (ws bs os : List ℕ)
     → Only (λ (r : ℕ × (List ℕ × List ℕ)). written (r .0) (r .1 .0) (r .1 .1) ≡ writtenOf (cutOf path ws bs) os)

@@ -10,6 +10,7 @@ use Rattle.refusals.specs.Laws.{told-once}
 use Rattle.scene.specs.Words.{wordAt, wordRead}
 use Rattle.scene.specs.Tags.{plus, wordSums, tagRead, tagOf, Scan, scanTold, scanOf}
 use lib.Ieee.{Float}
+use lib.Ieee.Scale.{finite}
 use Rattle.scene.specs.Reading.{segmentOf, transformOf, allFinite, flagsOf, widthOf}
 use Rattle.scene.specs.declared.words.Word.{Word}
 use Rattle.scene.specs.declared.words.Word.the-variants.{At, Outside}
@@ -59,6 +60,9 @@ read-path-segment-only tag stroke offset scene base = determined (segmentOf tag 
 
 pub read-transform-only : (scene : List ℕ) (base ix : ℕ) → Only (λ r. r ≡ transformOf scene base ix)
 read-transform-only scene base ix = determined (transformOf scene base ix)
+
+pub is-finite-only : (x : Float) → Only (λ r. r ≡ finite x)
+is-finite-only x = determined (finite x)
 
 pub all-finite-only : (z : List Float) → Only (λ r. r ≡ allFinite z)
 all-finite-only z = determined (allFinite z)

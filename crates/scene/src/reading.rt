@@ -213,7 +213,7 @@ pub fn read_transform(scene: &[u32], transform_base: u32, trans_ix: u32) -> Tran
 }
 
 // Neither an infinity nor a NaN, which no comparison holds of.
-fn is_finite(x: f32) -> bool
+pub fn is_finite(x: f32) -> bool
     ensures { λ r. ⌜ r ≡ finite x ⌝ }
 {
     let infinity = 1.0 / 0.0;

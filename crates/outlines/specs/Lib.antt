@@ -1,0 +1,5 @@
+pub mod Placing
+pub mod Walk
+pub mod Decode
+pub mod Lines
+pub mod Sheet

@@ -1,0 +1,3 @@
+// Draws fills: moves, lines, quads, cubics and ends become tag bytes and f32 point words in lent buffers.
+pub mod commands;
+pub mod pen;

@@ -1,0 +1,116 @@
+"""Drawing a whole sheet: outlines by commands, with the transform, style and path tags that stay with the caller."""
+import struct
+import sys
+from array import array
+from pathlib import Path
+from typing import Callable, List, Optional, Sequence, Union
+
+from . import pattern
+from .calls import Layout
+from .flattening import WORDS_OF_A_WORKGROUP, Answer, flattened
+from .lists import listing_of_answer
+from .pattern import NO_ROOM, NotDrawn, Pen
+from .picture.counting import found_in
+from .picture.paper import Wishes, picture_of
+from .sheets import Sheet as Read
+from .sheets import sheet_of
+
+TRANSFORM, STYLE, PATH = 0x20, 0x40, 0x10
+EVEN_ODD = 0x40000000
+TAGS_OF_A_WORKGROUP = 256
+
+
+class Sheet:
+    """A sheet of filled paths. Draw outlines with move, line, quad, cubic and end; `path` makes a path of them.
+
+        sheet = Sheet(scale=2)
+        sheet.move(10, 20).line(10, 80).cubic(10, 110, 40, 120, 70, 120).end()
+        sheet.path()
+        sheet.write("part.sheet")
+
+    One transform holds for all of it, six numbers as docs/SCENE.md has them, or a scale. Outlines are closed by
+    themselves. Each command gives the sheet back, so that commands can be strung together.
+    """
+
+    def __init__(self, scale: float = 1.0, transform: Optional[Sequence[float]] = None) -> None:
+        self._transform = tuple(transform) if transform else (scale, 0.0, 0.0, scale, 0.0, 0.0)
+        if len(self._transform) != 6:
+            raise ValueError(f"a transform has six numbers, not {len(self._transform)}")
+        self._pen, self._tags, self._points = Pen(), bytearray(64), array("I", bytes(4 * 256))
+        self._done: List[bytes] = []  # the tags of each path
+        self._drawn = 0  # how many tags of the pen are in them
+        self._styles: List[int] = []
+
+    def move(self, x: float, y: float) -> "Sheet":
+        """Begins an outline."""
+        return self._command(pattern.move, x, y)
+
+    def line(self, x: float, y: float) -> "Sheet":
+        """A line to (x, y)."""
+        return self._command(pattern.line, x, y)
+
+    def quad(self, x1: float, y1: float, x: float, y: float) -> "Sheet":
+        """A quadratic with one control point."""
+        return self._command(pattern.quad, x1, y1, x, y)
+
+    def cubic(self, x1: float, y1: float, x2: float, y2: float, x: float, y: float) -> "Sheet":
+        """A cubic with two control points."""
+        return self._command(pattern.cubic, x1, y1, x2, y2, x, y)
+
+    def end(self) -> "Sheet":
+        """Finishes the outline, with a line to its start where it ends elsewhere."""
+        return self._command(pattern.end)
+
+    def path(self, even_odd: bool = False) -> "Sheet":
+        """Makes a path of the outlines since the last one; what is open is finished. With even_odd, an outline within
+        another is an opening, whichever way it runs."""
+        self.end()
+        count = self._pen.counts.tags
+        self._done.append(bytes([STYLE]) + bytes(self._tags[self._drawn:count]) + bytes([PATH]))
+        self._drawn = count
+        self._styles += [EVEN_ODD if even_odd else 0, 0]
+        return self
+
+    def read(self, name: str = "drawn") -> Read:
+        """The sheet as if it were read from a file of that name. What is not in a path yet is not in it."""
+        return sheet_of(name, self.words(), True)
+
+    def flatten(self) -> Answer:
+        """Its lines and boxes, and its refusal if it was refused."""
+        return flattened(self.read())
+
+    def words(self) -> "array[int]":
+        """The words of the sheet: a head of six, and the scene: tags, points, the transform, styles."""
+        tags = bytes([TRANSFORM]) + b"".join(self._done)
+        workgroups = -(-len(tags) // TAGS_OF_A_WORKGROUP)
+        packed = array("I", tags.ljust(TAGS_OF_A_WORKGROUP * workgroups, b"\0"))
+        if sys.byteorder != "little":
+            packed.byteswap()
+        points = self._points[:self._pen.counts.points]
+        transform = array("I", struct.pack("=6f", *self._transform))
+        data_base = WORDS_OF_A_WORKGROUP * workgroups
+        transform_base = data_base + len(points)
+        # a tag before the first style reads two words before the styles: there the transform stands
+        layout = Layout(workgroups, 0, data_base, transform_base, transform_base + len(transform))
+        return array("I", [*layout, len(self._done)]) + packed + points + transform + array("I", self._styles)
+
+    def write(self, name: Union[str, Path]) -> None:
+        """Writes the sheet as text, which `hinth` and `flatlist` read."""
+        Path(name).write_text("".join(f"{word:08x}\n" for word in self.words()), encoding="ascii")
+
+    def draw(self, name: Union[str, Path], mm: Optional[float] = None, ink: bool = True, arrows: bool = False) -> None:
+        """Flattens the sheet and writes its picture, as `hinth draw` does: an SVG, with a red ring at each open point."""
+        found = found_in(listing_of_answer(Path(name).stem, self.flatten()))
+        Path(name).write_text(picture_of([found], Wishes(mm, arrows, ink)), encoding="utf-8")
+
+    def _command(self, command: Callable[..., None], *coordinates: float) -> "Sheet":
+        """The command, with twice the room where there is too little."""
+        try:
+            command(self._pen, *coordinates, self._tags, self._points)
+        except NotDrawn as refused:
+            if refused.number != NO_ROOM:
+                raise
+            self._tags.extend(bytes(len(self._tags)))
+            self._points.extend(array("I", bytes(4 * len(self._points))))
+            command(self._pen, *coordinates, self._tags, self._points)
+        return self
