@@ -175,7 +175,9 @@ fn random_sheets(extent: Extent) -> Tally {
             let most = 2 * tags.iter().map(|&tag| points_of(tag) as u64).sum::<u64>() + 2;
             let words = if random.below(4) > 0 { most } else { random.below(most) };
             let points: Vec<u32> = (0..words).map(|_| coordinate(&mut random)).collect();
-            let room = |random: &mut Random, n: usize| if random.below(3) > 0 { n } else { random.below(n as u64 + 1) as usize };
+            let room = |random: &mut Random, n: usize| {
+                if random.below(3) > 0 { n } else { random.below(n as u64 + 1) as usize }
+            };
             let room = [room(&mut random, tags.len()), room(&mut random, most as usize)];
             compare(tally, &tags, &points, room);
         }

@@ -5,7 +5,7 @@ from contextlib import ExitStack
 from typing import List, NamedTuple
 
 from .buffers import Buffer, Lent, Span, Words
-from .library import load
+from .opening import load
 from .refusals import Refusal
 
 # The box to begin with: every other one widens it.

@@ -3,7 +3,7 @@ import ctypes
 from typing import Dict, NamedTuple
 
 from .buffers import Lent, Words
-from .library import load
+from .opening import load
 
 SOUND, BAD_NUMBER, UNBALANCED = 0, 1, 2
 

@@ -5,7 +5,7 @@ from typing import Dict, NamedTuple
 
 from .buffers import Buffer, Lent, Words
 from .calls import WORDS_OF_A_LINE
-from .library import load
+from .opening import load
 
 NUMBERS_OF_A_LINE = 4
 START = b"IN;"

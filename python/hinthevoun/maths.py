@@ -3,7 +3,7 @@
 An argument is rounded to the nearest f32 first, as C does when a double is handed over, and the answer is an f32: a
 Python float that f32 holds exactly.
 """
-from .library import load
+from .opening import load
 
 
 def sqrt(x: float) -> float:

@@ -5,7 +5,7 @@ from contextlib import ExitStack
 from typing import Dict, NamedTuple
 
 from .buffers import Lent, Words
-from .library import load
+from .opening import load
 
 WHY: Dict[int, str] = {
     40: "a tag that counts points has the wanted kind already",

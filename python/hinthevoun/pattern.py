@@ -4,7 +4,7 @@ from contextlib import ExitStack
 from typing import Dict, NamedTuple, Sequence
 
 from .buffers import Buffer, Lent
-from .library import load
+from .opening import load
 from .refusals import Reason
 
 WORDS_OF_A_PEN = 7

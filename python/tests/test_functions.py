@@ -16,7 +16,7 @@ sys.path.insert(0, str(PACKAGE))
 import hinthevoun  # noqa: E402
 from hinthevoun import Layout, Refusal  # noqa: E402
 from hinthevoun.buffers import Lent  # noqa: E402
-from hinthevoun.library import load  # noqa: E402
+from hinthevoun.opening import load  # noqa: E402
 from hinthevoun.refusals import ENDS, REASONS  # noqa: E402
 
 

@@ -106,7 +106,7 @@ class Waiting(unittest.TestCase):
         same((done.returncode, done.stderr), (0, b""))
 
     def test_no_progress_is_told_while_the_library_is_built(self):
-        code = ("import subprocess, sys, time, hinthevoun.library as l; from hinthevoun.cli import main\n"
+        code = ("import subprocess, sys, time, hinthevoun.opening as l; from hinthevoun.cli import main\n"
                 "real = l.find; l.builder, l.find = '/bin/sleep-and-say', lambda: real() if done else None\n"
                 "done = []\n"
                 "def slowly(*a, **k):\n    time.sleep(2.2); done.append(1)\n"

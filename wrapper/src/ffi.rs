@@ -96,18 +96,8 @@ pub fn check(list: &[u32]) -> (u32, [u64; 2]) {
 }
 
 /// What both ways of moving a sheet are.
-type Move = unsafe extern "C" fn(
-    *const u8,
-    usize,
-    *const u32,
-    usize,
-    *mut u8,
-    usize,
-    *mut u32,
-    usize,
-    *mut u64,
-    usize,
-) -> u32;
+type Move =
+    unsafe extern "C" fn(*const u8, usize, *const u32, usize, *mut u8, usize, *mut u32, usize, *mut u64, usize) -> u32;
 
 unsafe extern "C" {
     fn hinth_to_f32(

@@ -69,21 +69,11 @@ fn answer((number, [tags, words, at]): (u32, [u64; 3])) -> Result<Moved, MoveRef
 /// assert_eq!(to_f32(&[0x05], &[0, 0xffff_0003], &mut tags, &mut points), Ok(Moved { tags: 1, words: 4 }));
 /// assert_eq!((tags, points.map(f32::from_bits)), ([0x0d], [0., 0., 3., -1.]));
 /// ```
-pub fn to_f32(
-    tags: &[u8],
-    points: &[u32],
-    new_tags: &mut [u8],
-    new_points: &mut [u32],
-) -> Result<Moved, MoveRefusal> {
+pub fn to_f32(tags: &[u8], points: &[u32], new_tags: &mut [u8], new_points: &mut [u32]) -> Result<Moved, MoveRefusal> {
     answer(ffi::to_f32(tags, points, new_tags, new_points))
 }
 
 /// Moves a sheet of f32 points back to i16 points, if every counted coordinate is a whole number of 16 bits and not -0.
-pub fn to_i16(
-    tags: &[u8],
-    points: &[u32],
-    old_tags: &mut [u8],
-    old_points: &mut [u32],
-) -> Result<Moved, MoveRefusal> {
+pub fn to_i16(tags: &[u8], points: &[u32], old_tags: &mut [u8], old_points: &mut [u32]) -> Result<Moved, MoveRefusal> {
     answer(ffi::to_i16(tags, points, old_tags, old_points))
 }

@@ -7,7 +7,7 @@ from ..checking import BAD_NUMBER, SOUND, NotChecked, Verdict, check
 from ..cli import DONE, REFUSED, Parser
 from ..errors import Wrong
 from ..files import target
-from ..library import load
+from ..opening import load
 from ..progress import Progress
 from ..records import Records, read_records
 from ..saying import count

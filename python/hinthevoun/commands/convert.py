@@ -7,8 +7,8 @@ from ..errors import Wrong
 from ..files import name_of, same, source, target
 from ..flattening import Answer, flattened
 from ..interrupting import stops_at_once
-from ..library import load
 from ..moving import NotMoved, to_f32, to_i16
+from ..opening import load
 from ..progress import Progress
 from ..saying import count, say
 from ..sheets import Sheet, read_sheet

@@ -3,7 +3,7 @@ from ..cli import DONE, REFUSED, Parser
 from ..cutting import NotCut, hpgl_of
 from ..errors import Wrong
 from ..files import name_of, same, target
-from ..library import load
+from ..opening import load
 from ..progress import Progress
 from ..records import Records, read_records
 from ..saying import say

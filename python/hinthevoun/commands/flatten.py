@@ -7,8 +7,8 @@ from ..errors import Wrong
 from ..files import name_of, same, source, target
 from ..flattening import flattened
 from ..interrupting import stops_at_once
-from ..library import load
 from ..lists import packed_of, text_of
+from ..opening import load
 from ..progress import Progress
 from ..refusals import Refusal
 from ..saying import say
