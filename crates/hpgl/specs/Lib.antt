@@ -2,6 +2,7 @@ pub mod Answers
 pub mod Text
 pub mod TextLaws
 pub mod Form
+pub mod Ranges
 pub mod Reading
 pub mod Numbers
 pub mod Sound
