@@ -1,9 +1,10 @@
 -- Worked examples, by computation. Assumes nothing.
 use mathlib.Core.Path.{_≡_, refl}
+use mathlib.Core.Bool.{true, false}
 use mathlib.Core.List.{List, [], _∷_}
 use Prim.Native.Nat.{ℕ}
 use lib.IntN.{pos, negsuc}
-use lib.Ieee.{ofBits}
+use lib.Ieee.{binary32, ofBits}
 use Rattle.hpgl.specs.Rounding.{roundedOf, isWithin, isGood, pointOf}
 use Rattle.hpgl.specs.Export.{exported, written, refused, noRoom, put, goesOn, putLine, exportFrom, exportOf}
 use Rattle.hpgl.specs.Text.{digits, decimal, numeral, signedOf}
@@ -51,6 +52,19 @@ too-far : readOf (rangeOf Old) 0 (73 ∷ 78 ∷ 59 ∷ 80 ∷ 85 ∷ 51 ∷ 50 �
 unfolding readOf run after moveOf upFrom downFrom firstOf secondOf whole numStep kept byteOf valueOf rangeOf
 too-far = refl
 
+-- IN;PU32768,0;PD-8388608,0; by the reader set to the new table
+abbrev afar : Line
+afar = record { from = record { x = pos 32768; y = pos 0 }; to = record { x = negsuc 8388607; y = pos 0 } }
+
+far : readOf (rangeOf New) 1 (73 ∷ 78 ∷ 59 ∷ 80 ∷ 85 ∷ 51 ∷ 50 ∷ 55 ∷ 54 ∷ 56 ∷ 44 ∷ 48 ∷ 59 ∷ 80 ∷ 68 ∷ 45 ∷ 56 ∷ 51 ∷ 56 ∷ 56 ∷ 54 ∷ 48 ∷ 56 ∷ 44 ∷ 48 ∷ 59 ∷ []) ≡ answer (afar ∷ []) complete
+unfolding readOf run after moveOf upFrom downFrom firstOf secondOf whole numStep kept byteOf valueOf rangeOf
+far = refl
+
+-- IN;PU8388608
+too-far-new : readOf (rangeOf New) 0 (73 ∷ 78 ∷ 59 ∷ 80 ∷ 85 ∷ 56 ∷ 51 ∷ 56 ∷ 56 ∷ 54 ∷ 48 ∷ 56 ∷ []) ≡ answer [] (tooFar 5)
+unfolding readOf run after moveOf upFrom downFrom firstOf secondOf whole numStep kept byteOf valueOf rangeOf
+too-far-new = refl
+
 -- IN;PU1,1;PD2,-3; with room for no line and for one
 no-room : readOf (rangeOf Old) 0 (73 ∷ 78 ∷ 59 ∷ 80 ∷ 85 ∷ 49 ∷ 44 ∷ 49 ∷ 59 ∷ 80 ∷ 68 ∷ 50 ∷ 44 ∷ 45 ∷ 51 ∷ 59 ∷ []) ≡ answer [] (full 9)
 unfolding readOf run after moveOf upFrom downFrom firstOf secondOf whole numStep kept byteOf valueOf rangeOf
@@ -81,3 +95,12 @@ cut-short = refl
 cut-nan : exportOf (rangeOf New) 8 100 words ≡ exported (73 ∷ 78 ∷ 59 ∷ []) (refused 1)
 unfolding exportOf exportFrom putLine put goesOn command numeral decimal digits pointOf roundedOf signedOf isGood isWithin rangeOf ofBits
 cut-nan = refl
+
+-- 8388607.5 rounds to 8388608, which the new table has below zero only
+half-above : isGood (rangeOf New) (ofBits binary32 0x4affffff) ≡ false
+unfolding isGood isWithin roundedOf signedOf rangeOf ofBits
+half-above = refl
+
+half-below : isGood (rangeOf New) (ofBits binary32 0xcaffffff) ≡ true
+unfolding isGood isWithin roundedOf signedOf rangeOf ofBits
+half-below = refl

@@ -32,7 +32,7 @@ unfolding linesReadOf
 told-lines a zs o t os os' e f g = rw (sym e, g, f)
 
 returns : tie.Need-returns
-returns c = told-lines (c .before .before .before .before .before .before .read .result) _ _ (c .before .before .before .before .report .result) _ _ (c .before .before .before .before .before .before .read .ensures) (c .before .before .before .before .report .ensures) (c .before .before .put-two .ensures)
+returns c = told-lines (c .before .before .before .before .before .before .read .result) _ _ (c .before .before .before .before .report .result) _ _ (rw (c .before .before .before .before .before .before .before .table-of .ensures) at (c .before .before .before .before .before .before .read .ensures)) (c .before .before .before .before .report .ensures) (c .before .before .put-two .ensures)
 
 pub hinth-read-cut-spec : {M : Type 1} → statement M
 hinth-read-cut-spec =
