@@ -22,13 +22,13 @@ refusal is the exception Refusal. The triangle of docs/FLATLIST.md:
 """
 from .calls import EMPTY_BOX, Layout, empty_boxes, flatten, scan
 from .checking import NotChecked, Verdict, check
-from .cutting import NotCut, cut, read_cut
+from .cutting import NotCut, Table, cut, read_cut
 from .errors import NoLibrary, Wrong
 from .maths import acos, asin, atan2, cbrt, cos, half, hypot, sin, sqrt, two_thirds
 from .moving import Moved, NotMoved, to_f32, to_i16
 from .refusals import Refusal
 
 __version__ = "0.1.0"
-__all__ = ["EMPTY_BOX", "Layout", "Moved", "NoLibrary", "NotChecked", "NotCut", "NotMoved", "Refusal", "Verdict",
+__all__ = ["EMPTY_BOX", "Layout", "Moved", "NoLibrary", "NotChecked", "NotCut", "NotMoved", "Refusal", "Table", "Verdict",
            "Wrong", "acos", "asin", "atan2", "cbrt", "check", "cos", "cut", "empty_boxes", "flatten", "half", "hypot",
            "read_cut", "scan", "sin", "sqrt", "to_f32", "to_i16", "two_thirds"]

@@ -28,7 +28,7 @@ _CALLS: Dict[str, List[Any]] = {
     "hinth_check": [*_LENT, *_LENT],
     **{name: _LENT * 5 for name in ("hinth_to_f32", "hinth_to_i16")},
     "hinth_cut": [*_LENT, _WORD, *_LENT, *_LENT],
-    "hinth_read_cut": [*_LENT, *_LENT, *_LENT],
+    "hinth_read_cut": [*_LENT, _WORD, *_LENT, *_LENT],
 }
 _MATHS: Dict[str, List[Any]] = {
     **{name: [_FLOAT] for name in ("sqrt", "cbrt", "two_thirds", "sin", "cos", "asin", "acos")},

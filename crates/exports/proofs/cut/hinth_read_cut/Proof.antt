@@ -12,6 +12,9 @@ use Rattle.exports.specs.Cut.{linesRead, linesReadOf}
 use Rattle.exports.proofs.cut.hinth_read_cut.Statement.{statement}
 use Rattle.exports.proofs.cut.hinth_read_cut.Tie as tie
 
+table-of-requires : tie.Need-table-of-requires
+table-of-requires c κs = search needs
+
 read-requires : tie.Need-read-requires
 read-requires c κs = search needs
 
@@ -37,4 +40,4 @@ returns c = told-lines (c .before .before .before .before .before .before .read 
 pub hinth-read-cut-spec : {M : Type 1} → statement M
 hinth-read-cut-spec =
     tie.close
-    (tie.spec read-requires report-requires put-two-requires same-length same-length-2 returns)
+    (tie.spec table-of-requires read-requires report-requires put-two-requires same-length same-length-2 returns)
