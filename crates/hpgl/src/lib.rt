@@ -1,7 +1,7 @@
 // HP-GL: the lines of one path as cuts for the knife table, and the reader of such files.
 pub mod export;
-pub mod reading;
 mod range;
+pub mod reading;
 mod rounding;
 mod text;
 
