@@ -201,8 +201,9 @@ uint32_t hinth_to_i16(const uint8_t *tags, size_t n_tags, const uint32_t *points
 
 /*
  * Cuts for the knife table: HP-GL files. A file is the three bytes `IN;`, then chains, none or more: a `PU` to the start of
- * the chain and one `PD` or more, each to the end of a line, as in `IN;PU0,2;PD-5,0;PD1,1;`. Numbers are decimal, from
- * -32767 to 32767, without a leading zero; zero has no sign. There is no space and no line end anywhere.
+ * the chain and one `PD` or more, each to the end of a line, as in `IN;PU0,2;PD-5,0;PD1,1;`. Numbers are decimal,
+ * without a leading zero; zero has no sign. There is no space and no line end anywhere. The old table takes numbers from
+ * -32767 to 32767, the new one from -8388608 to 8388607.
  *
  * Writes the lines of one path, from the records of a list as hinth_flatten stores them, in their order. A new chain starts
  * whenever a line does not begin on the bits where the last line of the path ended. Coordinates are taken to the nearest
@@ -211,7 +212,7 @@ uint32_t hinth_to_i16(const uint8_t *tags, size_t n_tags, const uint32_t *points
  *
  * The result is 0, or the number of the refusal, which is decided command by command:
  *
- *   30  a coordinate of the command is a NaN or, rounded, outside -32767 to 32767
+ *   30  a coordinate of the command is a NaN or, rounded, outside -8388608 to 8388607
  *   31  the whole command has no room, or `IN;` has none
  *
  * out[0] is the count of bytes that stand: those of the file, or those before the refused command. out[1] is the record in
@@ -223,19 +224,21 @@ uint32_t hinth_cut(const uint32_t *list, size_t list_words, uint32_t path, uint8
 
 /*
  * Reads such a file back: its lines, four numbers each, x and y of the start and of the end. What hinth_cut accepted gives
- * the rounded lines of the path, in order. Room is for n_numbers / 4 lines.
+ * the rounded lines of the path, in order. Room is for n_numbers / 4 lines. The reader is set to a table: 1 is the new one,
+ * and any other number the old one.
  *
  * The result is 0, or the number of the refusal:
  *
- *   33  a byte is not of the form (or the file stops short), or a number is out of range
+ *   32  a number is outside the table's range
+ *   33  a byte is not of the form, or the file stops short
  *   34  a whole PD has no room for its line
  *
- * out[0] is the count of lines that stand. out[1] is at 33 the position of the first byte that is not of the form, n_bytes
- * if the file stops short, or the start of the number that is out of range, as soon as its digits pass it; at 34 the
- * position of that PD's P; else 0. Numbers behind the lines that stand are not touched. If out_len is under 2 neither is
+ * out[0] is the count of lines that stand. out[1] is at 32 the start of that number, as soon as its digits pass the range; at
+ * 33 the position of the first byte that is not of the form, n_bytes if the file stops short; at 34 the position of that
+ * PD's P; else 0. Numbers behind the lines that stand are not touched. If out_len is under 2 neither is
  * written. Nothing else of out is ever written.
  */
-uint32_t hinth_read_cut(const uint8_t *file, size_t n_bytes, int32_t *lines, size_t n_numbers, uint64_t *out,
+uint32_t hinth_read_cut(const uint8_t *file, size_t n_bytes, uint32_t table, int32_t *lines, size_t n_numbers, uint64_t *out,
                         size_t out_len);
 
 /*

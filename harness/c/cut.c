@@ -31,15 +31,23 @@ static int cuts(const uint32_t *list, size_t words, size_t room, uint32_t number
 }
 
 /* the same of a reading with room for so many numbers; the lines are 1,1 to 2,2 to 3,3 */
-static int reads(const char *file, size_t room, uint32_t number, uint64_t count, uint64_t position) {
-    static const int32_t drawn[8] = {1, 1, 2, 2, 2, 2, -3, 0};
+static int reads_by(uint32_t table, const char *file, size_t room, uint32_t number, uint64_t count, uint64_t position) {
+    static const int32_t drawn[12] = {1, 1, 2, 2, 2, 2, -3, 0, -3, 0, -8388608, 8388607};
     int right = 1;
     for (size_t i = 0; i < 12; i++) lines[i] = 77;
     memset(out, MARK, sizeof out);
-    right &= hinth_read_cut((const uint8_t *)file, strlen(file), lines, room, out, 3) == number;
+    right &= hinth_read_cut((const uint8_t *)file, strlen(file), table, lines, room, out, 3) == number;
     right &= out[0] == count && out[1] == position && out[2] == 0xa5a5a5a5a5a5a5a5u;
     for (size_t i = 0; i < 12; i++) right &= lines[i] == (i < 4 * count ? drawn[i] : 77);
     return right;
+}
+
+#define OLD 0
+#define NEW 1
+
+/* by both tables */
+static int reads(const char *file, size_t room, uint32_t number, uint64_t count, uint64_t position) {
+    return reads_by(OLD, file, room, number, count, position) && reads_by(NEW, file, room, number, count, position);
 }
 
 #define HALF 0x3f000000u
@@ -70,14 +78,27 @@ static void readings(void) {
     CHECK(reads(file, 8, 0, 2, 0));
     CHECK(reads(file, 7, 34, 1, 15));
     CHECK(reads("IN;PU1,1;PD2,2;PD-0,0;", 12, 33, 1, 18));
-    CHECK(reads("IN;PU1,1;PD2,2;PD-32768,0;", 12, 33, 1, 17));
     CHECK(reads("IN;PU1,1;PD2,2", 12, 33, 0, 14));
+    CHECK(reads("IN;PU1,1;PD2,2;PD-8388609,0;", 12, 32, 1, 17));
     CHECK(reads("IN;", 0, 0, 0, 0));
     CHECK(reads("", 0, 33, 0, 0));
 }
 
+/* what the new table takes and the old one does not; a number that names no table is the old one */
+static void longer(void) {
+    static const char *file = "IN;PU1,1;PD2,2;PD-3,0;PD-8388608,8388607;";
+    static const uint32_t ends[6] = {7, 0, 0xcaffffffu, 0x4afffffeu, 0, 0};
+    static const uint32_t past[6] = {7, 0, 0, 0, 0, 0x4affffffu};
+    CHECK(reads_by(NEW, file, 12, 0, 3, 0));
+    CHECK(reads_by(OLD, file, 12, 32, 2, 24));
+    CHECK(reads_by(2, file, 12, 32, 2, 24));
+    CHECK(cuts(ends, 6, 64, 0, "IN;PU-8388608,8388607;PD0,0;", 0));
+    CHECK(cuts(past, 6, 64, 30, "IN;PU0,0;", 0));
+}
+
 int main(void) {
     files();
+    longer();
     readings();
     return failed;
 }

@@ -7,7 +7,7 @@ use crate::checker;
 use crate::random::Random;
 use crate::report::{self, Report};
 use crate::sweep::{self, Tally};
-use hinthevoun::{CutRefusal, ReadRefusal, cut, read_cut};
+use hinthevoun::{CutRefusal, ReadRefusal, Table, cut, read_cut};
 use std::collections::BTreeMap;
 use std::fmt::Write;
 use std::hint::black_box;
@@ -16,16 +16,24 @@ type Record = [u32; 6];
 type Written = (Result<usize, CutRefusal>, Vec<u8>);
 type Lines = (Result<usize, ReadRefusal>, Vec<i32>);
 
-const LIMIT: i64 = 32767;
+const TABLES: [Table; 2] = [Table::Old, Table::New];
 const MARK: u8 = 0xa5;
 const UNTOUCHED: i32 = 0x5a5a_5a5a;
 
 // ---- the references
 
-/// The nearest whole number, ties to even, if it is one of the table's. Every f32 is an f64, and so is every half.
+fn takes(table: Table, value: i64) -> bool {
+    match table {
+        Table::Old => value.abs() < 1 << 15,
+        Table::New => value >> 23 == 0 || value >> 23 == -1,
+    }
+}
+
+/// The nearest whole number, ties to even, if it is one of the new table's. Every f32 is an f64, and so is every half.
 fn rounded(word: u32) -> Option<i64> {
     let nearest = f64::from(f32::from_bits(word)).round_ties_even();
-    (nearest.abs() <= LIMIT as f64).then_some(nearest as i64)
+    // a NaN becomes 0, and what is larger than every i64 becomes the last one
+    (!nearest.is_nan() && takes(Table::New, nearest as i64)).then_some(nearest as i64)
 }
 
 /// The commands that a path's lines ask for, each with its record; `None` for one that cannot be written.
@@ -67,32 +75,40 @@ fn expected_cut(list: &[u32], path: u32, room: usize) -> Written {
     (answer.map_or(Ok(stands), Err), bytes)
 }
 
-/// The number that begins at a place, and the place behind its digits; or the place that is told.
-fn number(file: &[u8], start: usize) -> Result<(i32, usize), usize> {
+/// Where a file is left, and why.
+#[derive(Clone, Copy, PartialEq)]
+enum Left {
+    Wrong(usize),
+    Outside(usize),
+    Full(usize),
+}
+
+/// The number that begins at a place, and the place behind its digits.
+fn number(file: &[u8], table: Table, start: usize) -> Result<(i32, usize), Left> {
     let first = start + usize::from(file.get(start) == Some(&b'-'));
     let digits = file[first..].iter().take_while(|byte| byte.is_ascii_digit()).count();
     match (digits, file.get(first)) {
-        (0, _) => return Err(first),
-        (_, Some(b'0')) if first > start => return Err(first),
+        (0, _) => return Err(Left::Wrong(first)),
+        (_, Some(b'0')) if first > start => return Err(Left::Wrong(first)),
         (1, Some(b'0')) => return Ok((0, first + 1)),
-        (_, Some(b'0')) => return Err(first + 1),
+        (_, Some(b'0')) => return Err(Left::Wrong(first + 1)),
         _ => {}
     }
     let text = std::str::from_utf8(&file[start..first + digits]).expect("a sign and digits");
     match text.parse::<i64>() {
-        Ok(value) if value.abs() <= LIMIT => Ok((value as i32, first + digits)),
-        _ => Err(start),
+        Ok(value) if takes(table, value) => Ok((value as i32, first + digits)),
+        _ => Err(Left::Outside(start)),
     }
 }
 
 /// The two numbers of a command and the place behind its semicolon.
-fn point(file: &[u8], start: usize) -> Result<([i32; 2], usize), usize> {
+fn point(file: &[u8], table: Table, start: usize) -> Result<([i32; 2], usize), Left> {
     let mut at = start;
     let mut values = [0; 2];
     for (value, behind) in values.iter_mut().zip([b',', b';']) {
-        (*value, at) = number(file, at)?;
+        (*value, at) = number(file, table, at)?;
         if file.get(at) != Some(&behind) {
-            return Err(at);
+            return Err(Left::Wrong(at));
         }
         at += 1;
     }
@@ -100,11 +116,11 @@ fn point(file: &[u8], start: usize) -> Result<([i32; 2], usize), usize> {
 }
 
 /// The lines, and where the file is left.
-fn lines_of(file: &[u8], room: usize) -> (Vec<[i32; 4]>, Option<(bool, usize)>) {
+fn lines_of(file: &[u8], table: Table, room: usize) -> (Vec<[i32; 4]>, Option<Left>) {
     let mut lines = Vec::new();
     let common = file.iter().zip(b"IN;").take_while(|(a, b)| a == b).count();
     if common < 3 {
-        return (lines, Some((true, common)));
+        return (lines, Some(Left::Wrong(common)));
     }
     let (mut at, mut pen, mut drawn) = (3, None::<[i32; 2]>, true);
     while at < file.len() {
@@ -114,37 +130,38 @@ fn lines_of(file: &[u8], room: usize) -> (Vec<[i32; 4]>, Option<(bool, usize)>) 
             (Some(_), true) => b"UD",
         };
         if file[at] != b'P' {
-            return (lines, Some((true, at)));
+            return (lines, Some(Left::Wrong(at)));
         }
         let Some(letter) = file.get(at + 1).filter(|letter| allowed.contains(letter)) else {
-            return (lines, Some((true, at + 1)));
+            return (lines, Some(Left::Wrong(at + 1)));
         };
-        let (to, next) = match point(file, at + 2) {
+        let (to, next) = match point(file, table, at + 2) {
             Ok(found) => found,
-            Err(place) => return (lines, Some((true, place))),
+            Err(left) => return (lines, Some(left)),
         };
         drawn = *letter == b'D';
         if let (true, Some([x, y])) = (drawn, pen) {
             if lines.len() == room {
-                return (lines, Some((false, at)));
+                return (lines, Some(Left::Full(at)));
             }
             lines.push([x, y, to[0], to[1]]);
         }
         (at, pen) = (next, Some(to));
     }
-    let left = (!drawn).then_some((true, at));
+    let left = (!drawn).then_some(Left::Wrong(at));
     (lines, left)
 }
 
-fn expected_lines(file: &[u8], numbers: usize) -> Lines {
-    let (found, left) = lines_of(file, numbers / 4);
+fn expected_lines(file: &[u8], table: Table, numbers: usize) -> Lines {
+    let (found, left) = lines_of(file, table, numbers / 4);
     let lines = found.len();
     let mut values = found.concat();
     values.resize(numbers, UNTOUCHED);
     let answer = match left {
         None => Ok(lines),
-        Some((true, position)) => Err(ReadRefusal::Malformed { lines, position }),
-        Some((false, position)) => Err(ReadRefusal::Full { lines, position }),
+        Some(Left::Wrong(position)) => Err(ReadRefusal::Malformed { lines, position }),
+        Some(Left::Outside(position)) => Err(ReadRefusal::TooFar { lines, position }),
+        Some(Left::Full(position)) => Err(ReadRefusal::Full { lines, position }),
     };
     (answer, values)
 }
@@ -156,9 +173,9 @@ fn written(list: &[u32], path: u32, room: usize) -> Written {
     (cut(list, path, &mut bytes), bytes)
 }
 
-fn read(file: &[u8], numbers: usize) -> Lines {
+fn read(file: &[u8], table: Table, numbers: usize) -> Lines {
     let mut values = vec![UNTOUCHED; numbers];
-    (read_cut(file, &mut values), values)
+    (read_cut(file, table, &mut values), values)
 }
 
 fn compare_cut(tally: &mut Tally, list: &[u32], path: u32, room: usize) {
@@ -167,15 +184,18 @@ fn compare_cut(tally: &mut Tally, list: &[u32], path: u32, room: usize) {
 }
 
 fn compare_read(tally: &mut Tally, file: &[u8], numbers: usize) {
-    let (ours, right) = (read(file, numbers), expected_lines(file, numbers));
-    tally.count(ours == right, || {
-        format!("{numbers} numbers: {:?}, expected {:?}; {:?}", ours.0, right.0, String::from_utf8_lossy(file))
-    });
+    for table in TABLES {
+        let (ours, right) = (read(file, table, numbers), expected_lines(file, table, numbers));
+        tally.count(ours == right, || {
+            let text = String::from_utf8_lossy(file);
+            format!("{table:?}, {numbers} numbers: {:?}, expected {:?}; {text:?}", ours.0, right.0)
+        });
+    }
 }
 
 /// With room for all, exactly and one short of it, and for a part.
 fn compare_rooms(tally: &mut Tally, random: &mut Random, list: &[u32], path: u32) -> Vec<u8> {
-    let enough = 3 + 18 * list.len();
+    let enough = 3 + 7 * list.len();
     compare_cut(tally, list, path, enough);
     let (answer, bytes) = written(list, path, enough);
     let stands = match answer {
@@ -189,7 +209,7 @@ fn compare_rooms(tally: &mut Tally, random: &mut Random, list: &[u32], path: u32
 }
 
 fn compare_file(tally: &mut Tally, random: &mut Random, file: &[u8]) {
-    let lines = lines_of(file, usize::MAX).0.len();
+    let lines = lines_of(file, Table::New, usize::MAX).0.len();
     for numbers in
         [4 * lines + 8, 4 * lines, (4 * lines).saturating_sub(1), random.below(4 * lines as u64 + 1) as usize]
     {
@@ -198,7 +218,10 @@ fn compare_file(tally: &mut Tally, random: &mut Random, file: &[u8]) {
 }
 
 pub fn run(report: &mut Report, extent: Extent) {
-    report.check("cuts: every number from -32768 to 32768, and the halves between, both ways", numbers);
+    report.check(
+        "cuts: every number from -32768 to 32768 and those near the new ends, with their halves, both ways",
+        numbers,
+    );
     report.check("cuts: a coordinate of each word", || every_word(extent));
     report.check("cuts: random lists, and their files back", || random_lists(extent));
     report.check("cuts: files with every byte changed, left out, doubled and put in", || damaged(extent));
@@ -211,10 +234,11 @@ pub fn run(report: &mut Report, extent: Extent) {
 /// of a file, with one digit more too.
 fn numbers() -> Tally {
     let mut tally = Tally::default();
-    for whole in -32768..=32768 {
+    let near = [-8388608, -32768, 8388607].map(|end: i32| end - 700..=end + 700);
+    for whole in (-32768..=32768).chain(near.into_iter().flatten()) {
         let half = (whole as f32 + 0.5).to_bits();
         for word in [(whole as f32).to_bits(), half - 1, half, half + 1] {
-            compare_cut(&mut tally, &[5, 0, word, 0, 0, word], 5, 40);
+            compare_cut(&mut tally, &[5, 0, word, 0, 0, word], 5, 48);
         }
         for text in [format!("{whole}"), format!("{whole}0"), format!("0{whole}")] {
             compare_read(&mut tally, format!("IN;PU{text},0;PD0,{text};").as_bytes(), 4);
@@ -243,7 +267,7 @@ fn coordinate(random: &mut Random) -> u32 {
     let near = |whole: f32, random: &mut Random| (whole + random.below(5) as f32 * 0.25 - 0.5).to_bits();
     match random.below(40) {
         0 => random.word(),
-        1 => near(if random.below(2) == 0 { 32767.0 } else { -32767.0 }, random),
+        1 => near([32767.0, -32767.0, 8388607.0, -8388608.0][random.below(4) as usize], random),
         2 => 1 + random.below(3) as u32,
         3 => f32::MAX.to_bits(),
         4..8 => 0,
@@ -295,6 +319,7 @@ fn file(random: &mut Random) -> Vec<u8> {
         0 => 0,
         1 => 32767 - random.below(3) as i64,
         2 => random.below(3) as i64 - 32767,
+        3 => [32768, -32768, 8388607, 8388608, -8388608, -8388609][random.below(6) as usize],
         _ => random.below(2000) as i64 - 1000,
     };
     for _ in 0..value().rem_euclid(4) {
@@ -313,7 +338,7 @@ fn damaged(extent: Extent) -> Tally {
         let mut random = Random::seeded(block);
         let whole = file(&mut random);
         compare_file(tally, &mut random, &whole);
-        let room = 4 * lines_of(&whole, usize::MAX).0.len();
+        let room = 4 * lines_of(&whole, Table::New, usize::MAX).0.len();
         for at in 0..whole.len() {
             let (before, behind) = whole.split_at(at);
             compare_read(tally, before, room);
@@ -332,9 +357,9 @@ fn damaged(extent: Extent) -> Tally {
 
 /// Texts of the form's bytes and words, which are seldom files, and often for long.
 fn random_texts(extent: Extent) -> Tally {
-    const PARTS: [&str; 18] = [
-        "IN;", "PU", "PD", "P", ",", ";", "-", "0", "1", "32767", "32768", "-32767", "7,8;", "PU1,2;", "PD3,4;",
-        "PD0,-5;", "U", "x",
+    const PARTS: [&str; 22] = [
+        "IN;", "PU", "PD", "P", ",", ";", "-", "0", "1", "32767", "32768", "-32767", "8388607", "8388608", "-8388608",
+        "-8388609", "7,8;", "PU1,2;", "PD3,4;", "PD0,-5;", "U", "x",
     ];
     sweep::blocks(extent.scaled(300), |block, tally| {
         let mut random = Random::seeded(block);
@@ -355,8 +380,8 @@ fn closed_fills(extent: Extent) -> Tally {
         for _ in 0..10 {
             let records = checker::fills(&mut random).unwrap_or_default();
             for path in 0..4 {
-                let (answer, file) = written(records.as_flattened(), path, 3 + 36 * records.len());
-                let (_, lines) = read(&file[..answer.unwrap_or_default()], 4 * records.len());
+                let (answer, file) = written(records.as_flattened(), path, 3 + 42 * records.len());
+                let (_, lines) = read(&file[..answer.unwrap_or_default()], Table::New, 4 * records.len());
                 let mut over = BTreeMap::new();
                 for line in lines.as_chunks::<4>().0.iter().filter(|line| line[0] != UNTOUCHED) {
                     *over.entry([line[0], line[1]]).or_insert(0) += 1;
@@ -408,7 +433,7 @@ fn paces() -> [f64; 4] {
     [
         pace(file.len(), || assert!(cut(black_box(&list), 3, &mut bytes).is_ok())),
         pace(file.len(), || plain_writer(black_box(&list), 3, &mut text)),
-        pace(file.len(), || assert!(read_cut(black_box(&file), &mut lines).is_ok())),
+        pace(file.len(), || assert!(read_cut(black_box(&file), Table::New, &mut lines).is_ok())),
         pace(file.len(), || assert!(plain_reader(black_box(&file)).is_some())),
     ]
 }

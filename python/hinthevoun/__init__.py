@@ -25,7 +25,7 @@ refusal is the exception Refusal. The triangle of docs/FLATLIST.md:
 """
 from .calls import EMPTY_BOX, Layout, empty_boxes, flatten, scan
 from .checking import NotChecked, Verdict, check
-from .cutting import NotCut, cut, read_cut
+from .cutting import NotCut, Table, cut, read_cut
 from .drawing import Sheet
 from .errors import NoLibrary, Wrong
 from .maths import acos, asin, atan2, cbrt, cos, half, hypot, sin, sqrt, two_thirds
@@ -35,6 +35,6 @@ from .refusals import Refusal
 
 __version__ = "0.1.0"
 __all__ = ["EMPTY_BOX", "Layout", "Moved", "NoLibrary", "NotChecked", "NotCut", "NotDrawn", "NotMoved", "Pen",
-           "Refusal", "Sheet", "Verdict", "Wrong", "acos", "asin", "atan2", "cbrt", "check", "cos", "cubic", "cut",
-           "empty_boxes", "end", "flatten", "half", "hypot", "line", "move", "quad", "read_cut", "scan", "sin", "sqrt",
-           "to_f32", "to_i16", "two_thirds"]
+           "Refusal", "Sheet", "Table", "Verdict", "Wrong", "acos", "asin", "atan2", "cbrt", "check", "cos", "cubic",
+           "cut", "empty_boxes", "end", "flatten", "half", "hypot", "line", "move", "quad", "read_cut", "scan", "sin",
+           "sqrt", "to_f32", "to_i16", "two_thirds"]

@@ -12,7 +12,7 @@ from typing import Callable, Iterable, List, NamedTuple, Tuple, Union
 
 from .calls import EMPTY_BOX, WORDS_OF_A_LINE
 from .columns import Lines, lines_of_numbers, lines_of_words, moves_between, no_lines
-from .cutting import NotCut, lines_of_hpgl
+from .cutting import REACH, NotCut, Table, lines_of_hpgl, outside
 from .errors import Wrong
 from .flattening import Answer
 from .refusals import REASONS, Refusal
@@ -41,13 +41,16 @@ class Parts(NamedTuple):
 
 class Listing(NamedTuple):
     """A list as it is drawn. The refusal is empty where the call was accepted; a box is its six numbers; the moves are
-    those of a knife with the pen up."""
+    those of a knife with the pen up, `outside` its lines that the old table does not take, and `table` says which tables take
+    its file."""
 
     name: str
     refusal: str
     lines: Lines
     boxes: Boxes
     moves: Lines = no_lines()
+    outside: Lines = no_lines()
+    table: str = ""
 
 
 # ---- writing
@@ -118,10 +121,19 @@ def packed_listing(name: str, data: bytes) -> Listing:
 def cut_listing(name: str, data: bytes) -> Listing:
     """A file for the knife table, as it is drawn: its lines are those of one path, which it does not name."""
     try:
-        lines = lines_of_numbers(lines_of_hpgl(data))
+        numbers = lines_of_hpgl(data, Table.NEW)
+        table = "both tables" if outside(data, Table.OLD) is None else "the new table only"
     except NotCut as why:
         raise Wrong(f"{name}: {why}; the file was cut short or changed: cut the list again") from None
-    return Listing(name, "", lines, [], moves_between(lines))
+    lines = lines_of_numbers(numbers)
+    return Listing(name, "", lines, [], moves_between(lines), lines.at(lines_outside(numbers, Table.OLD)), table)
+
+
+def lines_outside(numbers: "array[int]", table: Table) -> List[int]:
+    """The indexes of the lines of four numbers that a table does not take."""
+    least, greatest = REACH[table]
+    ends = zip(numbers[0::4], numbers[1::4], numbers[2::4], numbers[3::4])
+    return [index for index, line in enumerate(ends) if min(line) < least or max(line) > greatest]
 
 
 def packed_parts(name: str, data: bytes) -> Parts:

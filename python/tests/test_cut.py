@@ -8,7 +8,7 @@ from support import PACKAGE, SOCKET_LINES, SOCKET_SHEET, hinth, holds, in_folder
 
 sys.path.insert(0, str(PACKAGE))
 
-from hinthevoun import NotCut, cut, read_cut  # noqa: E402
+from hinthevoun import NotCut, Table, cut, read_cut  # noqa: E402
 
 # A chain of two lines of path 7, with a record of another path between, and another chain.
 ROWS = [record(7, 0.5, 1.5, 2.5, -0.5), record(8, math.nan, 0, 0, 0), record(7, 2.5, -0.5, 3, -4.5), record(7, 0, -0.0, 0.25, -40)]
@@ -35,7 +35,7 @@ class Functions(unittest.TestCase):
         file, lines = bytearray(b"x" * 40), array("i", [9] * 14)
         same(cut(words_of(ROWS), 7, file), len(FILE))
         same(bytes(file), FILE + b"xxxx")
-        same(read_cut(FILE, lines), 3)
+        same(read_cut(FILE, Table.OLD, lines), 3)
         same(lines.tolist(), [0, 2, 2, 0, 2, 0, 3, -4, 0, 0, 0, -40, 9, 9])
 
     def test_words_left_over_and_other_paths_do_not_matter(self):
@@ -50,17 +50,30 @@ class Functions(unittest.TestCase):
         same(refusal_of(cut, words, 8, bytearray(40)), (30, 3, 1))
         same(refusal_of(cut, words, 7, bytearray(len(FILE) - 1)), (31, 28, 3))
         same(refusal_of(cut, words, 7, bytearray(2)), (31, 0, 0))
-        same(refusal_of(cut, words_of([record(0, 1, 1, 32767.5, 0)]), 0, bytearray(40)), (30, 9, 0))
-        same(str(NotCut(30, 9, 0)), "refused 30 at record 0: a coordinate is not a number or, rounded, outside -32767 to "
-                                    "32767; 9 bytes stand")
+        same(refusal_of(cut, words_of([record(0, 1, 1, 8388607.5, 0)]), 0, bytearray(40)), (30, 9, 0))
+        same(str(NotCut(30, 9, 0)), "refused 30 at record 0: a coordinate is not a number or, rounded, outside -8388608 "
+                                    "to 8388607; 9 bytes stand")
 
     def test_the_reader_refuses(self):
         room = array("i", bytes(16))
         for file, place in ((b"", 0), (b"IN", 2), (b"IN;PD", 4), (b"IN;PU-0", 6), (b"IN;PU01", 6), (b"IN;PU1,1;PU", 10),
-                            (b"IN;PU32768x", 5), (b"IN;PU1,1;", 9)):
-            same(refusal_of(read_cut, file, room), (33, 0, place))
-        same(refusal_of(read_cut, b"IN;PU1,1;PD2,2;PD3,3;?", room), (34, 1, 15))
+                            (b"IN;PU1,1;", 9)):
+            for table in Table:
+                same(refusal_of(read_cut, file, table, room), (33, 0, place))
+        same(refusal_of(read_cut, b"IN;PU1,1;PD2,2;PD3,3;?", Table.NEW, room), (34, 1, 15))
         same(room.tolist(), [1, 1, 2, 2])
+
+    def test_each_table_has_its_ends(self):
+        file, lines = bytearray(60), array("i", [9] * 8)
+        stands = cut(words_of([record(0, 1, 1, 32767, -32767), record(0, 32767, -32767, -8388607.5, 8388607)]), 0, file)
+        same(bytes(file[:stands]), b"IN;PU1,1;PD32767,-32767;PD-8388608,8388607;")
+        same(refusal_of(read_cut, file[:stands], Table.OLD, lines), (32, 1, 26))
+        same(lines.tolist(), [1, 1, 32767, -32767, 9, 9, 9, 9])
+        same(read_cut(file[:stands], Table.NEW, lines), 2)
+        same(lines.tolist(), [1, 1, 32767, -32767, 32767, -32767, -8388608, 8388607])
+        same(refusal_of(read_cut, b"IN;PU32768x", Table.OLD, lines), (32, 0, 5))
+        same(refusal_of(read_cut, b"IN;PU0,8388608x", Table.NEW, lines), (32, 0, 7))
+        self.assertRaises(ValueError, read_cut, FILE, 2, lines)
 
     def test_what_cannot_be_lent_is_told(self):
         words = words_of(ROWS)
@@ -68,8 +81,8 @@ class Functions(unittest.TestCase):
             self.assertRaises(ValueError, cut, words, wrong, bytearray(40))
         self.assertRaises(TypeError, cut, words, 7, b"only for reading")
         self.assertRaises(ValueError, cut, words, 7, memoryview(words).cast("B"))
-        self.assertRaises(TypeError, read_cut, FILE, array("d", [0]))
-        same(read_cut(list(FILE), array("i", bytes(48))), 3)
+        self.assertRaises(TypeError, read_cut, FILE, Table.NEW, array("d", [0]))
+        same(read_cut(list(FILE), Table.NEW, array("i", bytes(48))), 3)
 
 
 class Command(unittest.TestCase):
@@ -91,8 +104,20 @@ class Command(unittest.TestCase):
         result = hinth("cut", "-", "--path", 0, "-o", place, data=listed([record(1, 0, 0, 9, 9), record(0, 0, 0, 1e9, 0)]).encode())
         same(result.status, 1)
         holds(result.said, "standard input: refused 30 at record 1, counted from 0 (line 3): a coordinate is no number or, "
-                           "rounded, outside -32767 to 32767; scale or move the drawing; nothing is written")
+                           "rounded, outside -8388608 to 8388607; scale or move the drawing; nothing is written")
         same(place.read_bytes(), b"before")
+
+    @in_folder
+    def test_the_old_table_refuses_what_the_new_one_takes(self, folder):
+        place = folder / "cut.hpgl"
+        rows = [record(1, 0, 0, 9, 9), record(0, 0, 0, 8, 8), record(1, 1e6, 0, 0, 0), record(0, 8, 8, 8, 32767.5), record(0, 1e6, 0, 0, 0)]
+        result = hinth("cut", "-", "--path", 0, "--table", "old", "-o", place, data=listed(rows).encode())
+        same((result.status, place.exists()), (1, False))
+        holds(result.said, "standard input: refused 32 at record 3, counted from 0 (line 5): a coordinate is, rounded, outside "
+                           "-32767 to 32767, what the old table takes; scale or move the drawing; nothing is written")
+        same(hinth("cut", "-", "--path", 0, data=listed(rows).encode()).out, b"IN;PU0,0;PD8,8;PD8,32768;PU1000000,0;PD0,0;")
+        same(hinth("cut", "--table", "old", "-", "--path", 0, data=listed(rows[:3]).encode()).out, b"IN;PU0,0;PD8,8;")
+        same(hinth("cut", "--table", "older", "-", "--path", 0, data=b"").status, 2)
 
     def test_a_list_that_is_not_whole_is_not_cut(self):
         result = hinth("cut", "-", "--path", 0, data=b"refused 6 at 3\n")
@@ -113,7 +138,7 @@ class Command(unittest.TestCase):
     def test_the_sample_is_a_closed_cut(self):
         file = hinth("cut", SOCKET_LINES, "--path", 0).out
         lines = array("i", bytes(16 * file.count(b"PD")))
-        count = read_cut(file, lines)
+        count = read_cut(file, Table.OLD, lines)
         starts = sorted(zip(lines[0::4], lines[1::4]))
         same(starts, sorted(zip(lines[2::4], lines[3::4])))
         assert count > 50, count
@@ -150,6 +175,16 @@ class Drawing(unittest.TestCase):
         result = hinth("draw", source, place, "-o", folder / "both.svg")
         same(result.status, 0)
         holds(result.said, "1 line in both, 2 only in the first, 2 only in the second")
+
+    def test_the_tables_that_take_a_file_are_told(self):
+        result = hinth("draw", "-", data=b"IN;PU0,0;PD32767,0;")
+        holds(result.said, "standard input: fits both tables\n")
+        assert b'class="outside"' not in result.out
+        result = hinth("draw", "-", data=b"IN;PU0,0;PD32768,0;PD0,0;PD0,5;")
+        same(result.status, 0)
+        holds(result.said, "standard input: fits the new table only: 2 lines outside -32767 to 32767")
+        same(result.out.count(b'class="outside"'), 1)
+        holds(result.out.decode(), "line that the old table does not take")
 
     def test_a_damaged_file_is_told_by_its_byte(self):
         result = hinth("draw", "-", data=FILE[:-1])

@@ -168,6 +168,7 @@ unsafe extern "C" {
     fn hinth_read_cut(
         file: *const u8,
         n_bytes: usize,
+        table: u32,
         lines: *mut i32,
         n_numbers: usize,
         out: *mut u64,
@@ -186,11 +187,11 @@ pub fn cut(list: &[u32], path: u32, bytes: &mut [u8]) -> (u32, [u64; 2]) {
 }
 
 /// The refusal's number or 0, and the lines that stand and the position.
-pub fn read_cut(file: &[u8], lines: &mut [i32]) -> (u32, [u64; 2]) {
+pub fn read_cut(file: &[u8], table: u32, lines: &mut [i32]) -> (u32, [u64; 2]) {
     let mut out = [0; 2];
     // SAFETY: as in `scan`.
     let number = unsafe {
-        hinth_read_cut(file.as_ptr(), file.len(), lines.as_mut_ptr(), lines.len(), out.as_mut_ptr(), out.len())
+        hinth_read_cut(file.as_ptr(), file.len(), table, lines.as_mut_ptr(), lines.len(), out.as_mut_ptr(), out.len())
     };
     (number, out)
 }

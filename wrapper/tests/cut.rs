@@ -1,6 +1,6 @@
 //! Cuts: what is written and read back, each refusal with what stands, and that nothing else is touched.
 
-use hinthevoun::{CutRefusal, ReadRefusal, cut, read_cut};
+use hinthevoun::{CutRefusal, ReadRefusal, Table, cut, read_cut};
 
 fn record(path: u32, points: [f32; 4]) -> [u32; 6] {
     let [a, b, c, d] = points.map(f32::to_bits);
@@ -12,7 +12,7 @@ fn list() -> Vec<u32> {
     let mut words = [
         record(7, [0.5, 1.5, 2.5, -0.5]),
         record(8, [f32::NAN, f32::INFINITY, 0.0, 0.0]),
-        record(7, [2.5, -0.5, 32767.49, -32767.5]),
+        record(7, [2.5, -0.5, -8388607.5, 8388607.5]),
         record(7, [0.0, -0.0, 1e-45, -40.0]),
     ]
     .concat();
@@ -33,7 +33,7 @@ fn a_path_is_written_and_read_back() {
     assert_eq!(&bytes[..expected.len()], expected);
     assert!(bytes[expected.len()..].iter().all(|&byte| byte == b'x'));
     let mut lines = [9; 16];
-    assert_eq!(read_cut(expected, &mut lines), Ok(3));
+    assert_eq!(read_cut(expected, Table::Old, &mut lines), Ok(3));
     assert_eq!(lines, [0, 2, 2, 0, 2, 0, 3, -4, 0, 0, 0, -40, 9, 9, 9, 9]);
     assert_eq!(cut(&words, 6, &mut bytes), Ok(3));
     assert_eq!(&bytes[..4], b"IN;P");
@@ -43,7 +43,7 @@ fn a_path_is_written_and_read_back() {
 fn thirty_goes_before_thirty_one_and_whole_commands_stand() {
     let words = list();
     let mut bytes = [b'x'; 64];
-    // -32767.5 is a tie, and the even one of its neighbours is out of range
+    // 8388607.5 is a tie, and the even one of its neighbours is out of range; of -8388607.5 it is not
     assert_eq!(cut(&words, 7, &mut bytes), Err(CutRefusal::BadNumber { bytes: 15, record: 2 }));
     assert_eq!(&bytes[..16], b"IN;PU0,2;PD2,0;x");
     assert_eq!(cut(&words, 8, &mut bytes), Err(CutRefusal::BadNumber { bytes: 3, record: 1 }));
@@ -51,7 +51,7 @@ fn thirty_goes_before_thirty_one_and_whole_commands_stand() {
         assert_eq!(cut(&words, 8, &mut bytes[..room]), Err(CutRefusal::NoRoom { bytes: 0, record: 0 }));
     }
     // a good start and a bad end leave the PU
-    let words = record(1, [1.0, 2.0, 40000.0, 0.0]);
+    let words = record(1, [1.0, 2.0, 8388608.0, 0.0]);
     assert_eq!(cut(&words, 1, &mut bytes), Err(CutRefusal::BadNumber { bytes: 9, record: 0 }));
     assert_eq!(&bytes[..9], b"IN;PU1,2;");
     let refusal = CutRefusal::BadNumber { bytes: 15, record: 2 };
@@ -90,11 +90,35 @@ fn the_reader_tells_the_first_bad_byte() {
         (b"IN;PU-0,1;PD2,2;", 6),
         (b"IN;PU01,1;PD2,2;", 6),
         (b"IN;PU1,1;PD2,2;\n", 15),
-        (b"IN;PU32768,1;PD2,2;", 5),
-        (b"IN;PU1,-99999x", 7),
     ] {
         let stands = usize::from(file.len() == 16 && position == 15);
-        assert_eq!(read_cut(file, &mut lines), Err(ReadRefusal::Malformed { lines: stands, position }), "{file:?}");
+        for table in [Table::Old, Table::New] {
+            let refusal = ReadRefusal::Malformed { lines: stands, position };
+            assert_eq!(read_cut(file, table, &mut lines), Err(refusal), "{file:?}");
+        }
+    }
+}
+
+#[test]
+fn each_table_has_its_ends() {
+    let words = record(1, [-8388607.5, 8388607.0, -8388608.0, 32768.0]);
+    let mut bytes = [0; 64];
+    let file = b"IN;PU-8388608,8388607;PD-8388608,32768;";
+    assert_eq!(cut(&words, 1, &mut bytes), Ok(file.len()));
+    assert_eq!(&bytes[..file.len()], file);
+    let mut lines = [9; 4];
+    assert_eq!(read_cut(file, Table::Old, &mut lines), Err(ReadRefusal::TooFar { lines: 0, position: 5 }));
+    assert_eq!(lines, [9; 4]);
+    assert_eq!(read_cut(file, Table::New, &mut lines), Ok(1));
+    assert_eq!(lines, [-8388608, 8388607, -8388608, 32768]);
+    for (table, file, position) in [
+        (Table::Old, &b"IN;PU32768,1;PD2,2;"[..], 5),
+        (Table::Old, b"IN;PU1,-99999x", 7),
+        (Table::New, b"IN;PU8388608x", 5),
+        (Table::New, b"IN;PU0,-8388609", 7),
+        (Table::New, b"IN;PU0,99999999999999999999;", 7),
+    ] {
+        assert_eq!(read_cut(file, table, &mut lines), Err(ReadRefusal::TooFar { lines: 0, position }), "{file:?}");
     }
 }
 
@@ -104,9 +128,10 @@ fn lines_before_a_refusal_stand() {
         (&b"IN;PU1,1;PD2,2;PD3,3;PD4,4;"[..], 8, ReadRefusal::Full { lines: 2, position: 21 }),
         (b"IN;PU1,1;PD2,2;PD3,3;PD4,4;?", 11, ReadRefusal::Full { lines: 2, position: 21 }),
         (b"IN;PU1,1;PD2,2;PD3,3;PD4,4", 8, ReadRefusal::Malformed { lines: 2, position: 26 }),
+        (b"IN;PU1,1;PD2,2;PD3,3;PD4,32768;", 12, ReadRefusal::TooFar { lines: 2, position: 25 }),
     ] {
         let mut lines = [9; 12];
-        assert_eq!(read_cut(file, &mut lines[..room]), Err(refusal));
+        assert_eq!(read_cut(file, Table::Old, &mut lines[..room]), Err(refusal));
         assert_eq!(lines, [1, 1, 2, 2, 2, 2, 3, 3, 9, 9, 9, 9]);
     }
     assert_eq!(

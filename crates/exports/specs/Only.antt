@@ -18,7 +18,7 @@ use Rattle.hpgl.specs.Export.{cutOf}
 use Rattle.hpgl.specs.Reading.{readingOf}
 use Rattle.exports.specs.Call.{reported, reportedOf}
 use Rattle.exports.specs.Scan.{scanned, scannedOf}
-use Rattle.exports.specs.Cut.{written, writtenOf, linesRead, linesReadOf}
+use Rattle.exports.specs.Cut.{tableOf, written, writtenOf, linesRead, linesReadOf}
 use Rattle.checker.specs.Verdict.{toldOf}
 use Rattle.checker.specs.Only.{check-only}
 use Rattle.checker.specs.declared.Verdict.{Verdict}
@@ -111,6 +111,6 @@ pub hinth-cut-only : (path : ℕ) (ws bs os : List ℕ)
     → Only (λ (r : ℕ × (List ℕ × List ℕ)). written (r .0) (r .1 .0) (r .1 .1) ≡ writtenOf (cutOf path ws bs) os)
 hinth-cut-only path ws bs os r s p q = let e = p ∙ sym q in λ i. (e i .number, (e i .bytes, e i .out))
 
-pub hinth-read-cut-only : (file : List ℕ) (zs : List ℤ) (os : List ℕ)
-    → Only (λ (r : ℕ × (List ℤ × List ℕ)). linesRead (r .0) (r .1 .0) (r .1 .1) ≡ linesReadOf (readingOf file zs) os)
-hinth-read-cut-only file zs os r s p q = let e = p ∙ sym q in λ i. (e i .number, (e i .numbers, e i .out))
+pub hinth-read-cut-only : (table : ℕ) (file : List ℕ) (zs : List ℤ) (os : List ℕ)
+    → Only (λ (r : ℕ × (List ℤ × List ℕ)). linesRead (r .0) (r .1 .0) (r .1 .1) ≡ linesReadOf (readingOf (tableOf table) file zs) os)
+hinth-read-cut-only table file zs os r s p q = let e = p ∙ sym q in λ i. (e i .number, (e i .numbers, e i .out))

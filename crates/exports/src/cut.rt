@@ -2,8 +2,9 @@
 ghost use mathlib.Core.Path.{_≡_};
 ghost use Rattle.hpgl.specs.Export.{cutOf};
 ghost use Rattle.hpgl.specs.Reading.{readingOf};
-ghost use Rattle.exports.specs.Cut.{written, writtenOf, linesRead, linesReadOf};
+ghost use Rattle.exports.specs.Cut.{written, writtenOf, tableOf, linesRead, linesReadOf};
 use crate::check::put_two;
+use hpgl::Table;
 use hpgl::export::export;
 use hpgl::reading::read;
 
@@ -17,12 +18,21 @@ pub extern "C" fn hinth_cut(list: &[u32], path: u32, bytes: &mut [u8], out: &mut
     report.number
 }
 
-#[no_mangle]
-pub extern "C" fn hinth_read_cut(file: &[u8], lines: &mut [i32], out: &mut [u64]) -> u32
-    ensures { λ r. ⌜ linesRead r (now (lines .exit)) (now (out .exit))
-        ≡ linesReadOf (readingOf (now (file .entry)) (now (lines .entry))) (now (out .entry)) ⌝ }
+fn table_of(number: u32) -> Table
+    ensures { λ r. ⌜ r ≡ tableOf number ⌝ }
 {
-    let back = read(file, lines).report();
+    if number == 1 {
+        return Table::New;
+    }
+    Table::Old
+}
+
+#[no_mangle]
+pub extern "C" fn hinth_read_cut(file: &[u8], table: u32, lines: &mut [i32], out: &mut [u64]) -> u32
+    ensures { λ r. ⌜ linesRead r (now (lines .exit)) (now (out .exit))
+        ≡ linesReadOf (readingOf (tableOf table) (now (file .entry)) (now (lines .entry))) (now (out .entry)) ⌝ }
+{
+    let back = read(file, lines, table_of(table)).report();
     put_two(out, back.stands as u64, back.at as u64);
     back.number
 }

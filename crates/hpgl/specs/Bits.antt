@@ -15,8 +15,9 @@ use lib.Ieee.Nearest.{closest, closest-mono, closest-same}
 use borrow.Author.Tests.{lt-ltb, le-ltb, le-leb, lt-leb, eq-eqb, ne-eqb}
 use Rattle.laws.specs.Same.{either}
 use Rattle.hpgl.specs.Text.{pick, signedOf}
-use Rattle.hpgl.specs.Form.{Range, most, knifeTable}
+use Rattle.hpgl.specs.Form.{Range, most, rangeOf}
 use Rattle.hpgl.specs.Rounding.{roundedOf, isWithin, isGood}
+use Rattle.hpgl.specs.declared.Table.the-variants.{New}
 use Rattle.hpgl.specs.declared.rounding.Rounded.{Rounded}
 use Rattle.hpgl.specs.declared.rounding.Rounded.the-variants.{Bad, To}
 
@@ -162,29 +163,24 @@ near-fields s (suc x) t h d =
     rw (ne-eqb (suc x) 255 (λ e. omega arith))
     (rw (size-some x t h d) at (valued (odd 24 s (8388608 + t) x 149) s ((8388608 + t) * 2 ^ x) (2 ^ 149) (pow-pos 149) (odd-sign 24 s (8388608 + t) x 149)))
 
--- ---- what code finds, for the table's range
-pub most-is : (s : Bool) → most knifeTable s ≡ 32767
-unfolding knifeTable
-most-is true = refl
-most-is false = refl
-
+-- ---- what code finds, for the new table's range
 digits-of : (w : ℕ) → w % 8388608 < 8388608
 digits-of w = omega arith
 
-pub far-bad : (w : ℕ) → 150 < w % 2147483648 / 8388608 → Rounds knifeTable w Bad
-unfolding ofBits knifeTable
-far-bad w h = far-fields knifeTable (leb 2147483648 w) (w % 8388608) (w % 2147483648 / 8388608) (lit< tt) (lit< tt) h
+pub far-bad : (w : ℕ) → 150 < w % 2147483648 / 8388608 → Rounds (rangeOf New) w Bad
+unfolding ofBits rangeOf
+far-bad w h = far-fields (rangeOf New) (leb 2147483648 w) (w % 8388608) (w % 2147483648 / 8388608) (lit< tt) (lit< tt) h
 
-module _ (w : ℕ) (h : w % 2147483648 / 8388608 ≤ 150) (n : ℕ) (e : n ≡ sizeOf (w % 2147483648 / 8388608) (w % 8388608)) where
+module _ (w : ℕ) (h : w % 2147483648 / 8388608 ≤ 150) (n : ℕ) (e : n ≡ sizeOf (w % 2147483648 / 8388608) (w % 8388608)) (m : ℕ) (f : m ≡ most (rangeOf New) (leb 2147483648 w)) where
   here : Valued (ofBits binary32 w) (leb 2147483648 w) n
   unfolding ofBits
   here = rw e (near-fields (leb 2147483648 w) (w % 2147483648 / 8388608) (w % 8388608) h (digits-of w))
 
-  in-range : isGood knifeTable (ofBits binary32 w) ≡ leb n 32767
-  in-range = here .good knifeTable ∙ within-size knifeTable (leb 2147483648 w) n ∙ ap (leb n) (most-is (leb 2147483648 w))
+  in-range : isGood (rangeOf New) (ofBits binary32 w) ≡ leb n m
+  in-range = here .good (rangeOf New) ∙ within-size (rangeOf New) (leb 2147483648 w) n ∙ ap (leb n) (sym f)
 
-  pub size-bad : 32767 < n → Rounds knifeTable w Bad
-  size-bad l = in-range ∙ lt-leb n 32767 l
+  pub size-bad : m < n → Rounds (rangeOf New) w Bad
+  size-bad l = in-range ∙ lt-leb n m l
 
-  pub size-good : n ≤ 32767 → Rounds knifeTable w (To (leb 2147483648 w) n)
-  size-good l = (in-range ∙ le-leb n 32767 l, here .rounded)
+  pub size-good : n ≤ m → Rounds (rangeOf New) w (To (leb 2147483648 w) n)
+  size-good l = (in-range ∙ le-leb n m l, here .rounded)

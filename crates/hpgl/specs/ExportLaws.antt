@@ -13,8 +13,9 @@ use borrow.Author.Tests.{lt-ltb, le-ltb, le-leb, lt-leb, eq-eqb, ne-eqb}
 use Rattle.records.specs.Record.{count, word, pathOf}
 use Rattle.hpgl.specs.Text.{numeral, signedOf}
 use Rattle.hpgl.specs.TextLaws.{Stored, sets-append}
-use Rattle.hpgl.specs.Form.{Pen, up, down, letter, command, Range, knifeTable}
+use Rattle.hpgl.specs.Form.{Pen, up, down, letter, command, Range, rangeOf}
 use Rattle.hpgl.specs.declared.Point.{Point}
+use Rattle.hpgl.specs.declared.Table.the-variants.{New}
 use Rattle.hpgl.specs.CommandLaws.{penOf, commandText}
 use Rattle.hpgl.specs.Rounding.{isGood, pointOf}
 use Rattle.hpgl.specs.Bits.{Rounds}
@@ -50,7 +51,7 @@ pub record Continues (part : ℕ → ℕ → (ℕ → Exported) → Exported) (b
   pub room : InRoom r after
 
 abbrev pub steppedTo : List ℕ → ℕ → ℕ → ℕ → Step → List ℕ → Outcome
-steppedTo ws path i n (step-is.On a l) after = finish a after (exportFrom knifeTable path ws (length after - a) l n (suc i))
+steppedTo ws path i n (step-is.On a l) after = finish a after (exportFrom (rangeOf New) path ws (length after - a) l n (suc i))
 steppedTo ws path i n (step-is.Bad m) after = outcome (BadNumber m i) after
 steppedTo ws path i n (step-is.Full m) after = outcome (NoRoom m i) after
 
@@ -60,7 +61,7 @@ StepInRoom (step-is.Bad n) after = Unit {0}
 StepInRoom (step-is.Full n) after = Unit {0}
 
 pub record Steps (ws : List ℕ) (path i : ℕ) (last : Last) (before : List ℕ) (at : ℕ) (r : Step) (after : List ℕ) : Type 0 where
-  pub says : (n : ℕ) → finish at before (exportFrom knifeTable path ws (length before - at) last (suc n) i) ≡ steppedTo ws path i n r after
+  pub says : (n : ℕ) → finish at before (exportFrom (rangeOf New) path ws (length before - at) last (suc n) i) ≡ steppedTo ws path i n r after
   pub room : StepInRoom r after
 
 pub on-room : (q : Put) (a : ℕ) (after : List ℕ) → q ≡ put-is.On a → InRoom q after → a ≤ length after
@@ -128,47 +129,47 @@ module _ (r : Range) (k : Pen) (x y : ℕ) (before : List ℕ) (at : ℕ) where
 -- by what code found of the two words
 module _ (draws : Bool) (x y : ℕ) (before : List ℕ) (at : ℕ) where
   abbrev Here : Put → List ℕ → Type 0
-  Here = Continues (put knifeTable (penOf draws) x y) before at
+  Here = Continues (put (rangeOf New) (penOf draws) x y) before at
 
-  pub bad-x : Rounds knifeTable x Bad → Here (put-is.Bad at) before
-  bad-x e = put-bad knifeTable (penOf draws) x y before at (rw e)
+  pub bad-x : Rounds (rangeOf New) x Bad → Here (put-is.Bad at) before
+  bad-x e = put-bad (rangeOf New) (penOf draws) x y before at (rw e)
 
-  pub bad-y : (s : Bool) (n : ℕ) → Rounds knifeTable x (To s n) → Rounds knifeTable y Bad → Here (put-is.Bad at) before
-  bad-y s n e f = put-bad knifeTable (penOf draws) x y before at (rw (e .0, f))
+  pub bad-y : (s : Bool) (n : ℕ) → Rounds (rangeOf New) x (To s n) → Rounds (rangeOf New) y Bad → Here (put-is.Bad at) before
+  bad-y s n e f = put-bad (rangeOf New) (penOf draws) x y before at (rw (e .0, f))
 
-  pub good-both : (s : Bool) (n : ℕ) (t : Bool) (m : ℕ) → Rounds knifeTable x (To s n) → Rounds knifeTable y (To t m) → (q : Put) (after : List ℕ) → Texted (commandText draws s n t m) before at q after → Here q after
+  pub good-both : (s : Bool) (n : ℕ) (t : Bool) (m : ℕ) → Rounds (rangeOf New) x (To s n) → Rounds (rangeOf New) y (To t m) → (q : Put) (after : List ℕ) → Texted (commandText draws s n t m) before at q after → Here q after
   unfolding commandText
   good-both s n t m e f q after h =
       let p : pointOf x y ≡ record { x = signedOf s n; y = signedOf t m } = (unfold pointOf in rw (e .1, f .1)) in
-      put-good knifeTable (penOf draws) x y before at (rw (e .0, f .0)) q after (subst (λ (p : Point). Texted (command (penOf draws) p []) before at q after) (sym p) h)
+      put-good (rangeOf New) (penOf draws) x y before at (rw (e .0, f .0)) q after (subst (λ (p : Point). Texted (command (penOf draws) p []) before at q after) (sym p) h)
 
 -- ---- a line
 module _ (x y z w : ℕ) (before : List ℕ) (at : ℕ) where
   abbrev Lined : Bool → Put → List ℕ → Type 0
-  Lined b = Continues (putLine knifeTable b x y z w) before at
+  Lined b = Continues (putLine (rangeOf New) b x y z w) before at
 
-  pub line-joined : (b : Bool) (q : Put) (after : List ℕ) → b ≡ true → Continues (put knifeTable down z w) before at q after → Lined b q after
+  pub line-joined : (b : Bool) (q : Put) (after : List ℕ) → b ≡ true → Continues (put (rangeOf New) down z w) before at q after → Lined b q after
   unfolding putLine
   line-joined b q after e h = rw e h
 
-  module _ (b : Bool) (q : Put) (mid : List ℕ) (e : b ≡ false) (u : Continues (put knifeTable up x y) before at q mid) where
-    pub line-then : (a : ℕ) (q' : Put) (after : List ℕ) → q ≡ put-is.On a → Continues (put knifeTable down z w) mid a q' after → Lined b q' after
+  module _ (b : Bool) (q : Put) (mid : List ℕ) (e : b ≡ false) (u : Continues (put (rangeOf New) up x y) before at q mid) where
+    pub line-then : (a : ℕ) (q' : Put) (after : List ℕ) → q ≡ put-is.On a → Continues (put (rangeOf New) down z w) mid a q' after → Lined b q' after
     unfolding putLine
     line-then a q' after g d =
-        let v : Continues (put knifeTable up x y) before at (put-is.On a) mid = rw g at u in
-        rw e (record { says = λ i rest. v .says i (λ m. put knifeTable down z w m i rest) ∙ d .says i rest; room = d .room })
+        let v : Continues (put (rangeOf New) up x y) before at (put-is.On a) mid = rw g at u in
+        rw e (record { says = λ i rest. v .says i (λ m. put (rangeOf New) down z w m i rest) ∙ d .says i rest; room = d .room })
 
     pub line-bad : (n : ℕ) → q ≡ put-is.Bad n → Lined b (put-is.Bad n) mid
     unfolding putLine
     line-bad n g =
-        let v : Continues (put knifeTable up x y) before at (put-is.Bad n) mid = rw g at u in
-        rw e (record { says = λ i rest. v .says i (λ m. put knifeTable down z w m i rest); room = tt })
+        let v : Continues (put (rangeOf New) up x y) before at (put-is.Bad n) mid = rw g at u in
+        rw e (record { says = λ i rest. v .says i (λ m. put (rangeOf New) down z w m i rest); room = tt })
 
     pub line-full : (n : ℕ) → q ≡ put-is.Full n → Lined b (put-is.Full n) mid
     unfolding putLine
     line-full n g =
-        let v : Continues (put knifeTable up x y) before at (put-is.Full n) mid = rw g at u in
-        rw e (record { says = λ i rest. v .says i (λ m. put knifeTable down z w m i rest); room = tt })
+        let v : Continues (put (rangeOf New) up x y) before at (put-is.Full n) mid = rw g at u in
+        rw e (record { says = λ i rest. v .says i (λ m. put (rangeOf New) down z w m i rest); room = tt })
 
 -- ---- a record
 module _ (ws : List ℕ) (path i : ℕ) (last : Last) (before : List ℕ) (at : ℕ) where
@@ -178,9 +179,9 @@ module _ (ws : List ℕ) (path i : ℕ) (last : Last) (before : List ℕ) (at : 
 
   module _ (is : pathOf ws i ≡ path) where
     -- the line of record i, before the records behind it
-    turned : (n : ℕ) → exportFrom knifeTable path ws (length before - at) last (suc n) i
-        ≡ putLine knifeTable (goesOn last (word ws i 2) (word ws i 3)) (word ws i 2) (word ws i 3) (word ws i 4) (word ws i 5) (length before - at) i
-        (λ m. exportFrom knifeTable path ws m (Ended (word ws i 4) (word ws i 5)) n (suc i))
+    turned : (n : ℕ) → exportFrom (rangeOf New) path ws (length before - at) last (suc n) i
+        ≡ putLine (rangeOf New) (goesOn last (word ws i 2) (word ws i 3)) (word ws i 2) (word ws i 3) (word ws i 4) (word ws i 5) (length before - at) i
+        (λ m. exportFrom (rangeOf New) path ws m (Ended (word ws i 4) (word ws i 5)) n (suc i))
     unfolding exportFrom
     turned n = rw (eq-eqb (pathOf ws i) path is)
 
@@ -189,17 +190,17 @@ module _ (ws : List ℕ) (path i : ℕ) (last : Last) (before : List ℕ) (at : 
     stepOf (put-is.Bad n) z w = step-is.Bad n
     stepOf (put-is.Full n) z w = step-is.Full n
 
-    by-result : (q : Put) (after : List ℕ) → Continues (putLine knifeTable (goesOn last (word ws i 2) (word ws i 3)) (word ws i 2) (word ws i 3) (word ws i 4) (word ws i 5)) before at q after → Steps ws path i last before at (stepOf q (word ws i 4) (word ws i 5)) after
-    by-result (put-is.On a) after k = record { says = λ n. ap (finish at before) (turned n) ∙ k .says i (λ m. exportFrom knifeTable path ws m (Ended (word ws i 4) (word ws i 5)) n (suc i)); room = k .room }
-    by-result (put-is.Bad m) after k = record { says = λ n. ap (finish at before) (turned n) ∙ k .says i (λ m. exportFrom knifeTable path ws m (Ended (word ws i 4) (word ws i 5)) n (suc i)); room = tt }
-    by-result (put-is.Full m) after k = record { says = λ n. ap (finish at before) (turned n) ∙ k .says i (λ m. exportFrom knifeTable path ws m (Ended (word ws i 4) (word ws i 5)) n (suc i)); room = tt }
+    by-result : (q : Put) (after : List ℕ) → Continues (putLine (rangeOf New) (goesOn last (word ws i 2) (word ws i 3)) (word ws i 2) (word ws i 3) (word ws i 4) (word ws i 5)) before at q after → Steps ws path i last before at (stepOf q (word ws i 4) (word ws i 5)) after
+    by-result (put-is.On a) after k = record { says = λ n. ap (finish at before) (turned n) ∙ k .says i (λ m. exportFrom (rangeOf New) path ws m (Ended (word ws i 4) (word ws i 5)) n (suc i)); room = k .room }
+    by-result (put-is.Bad m) after k = record { says = λ n. ap (finish at before) (turned n) ∙ k .says i (λ m. exportFrom (rangeOf New) path ws m (Ended (word ws i 4) (word ws i 5)) n (suc i)); room = tt }
+    by-result (put-is.Full m) after k = record { says = λ n. ap (finish at before) (turned n) ∙ k .says i (λ m. exportFrom (rangeOf New) path ws m (Ended (word ws i 4) (word ws i 5)) n (suc i)); room = tt }
 
-    pub its-line : (x y z w : ℕ) (b : Bool) → x ≡ word ws i 2 → y ≡ word ws i 3 → z ≡ word ws i 4 → w ≡ word ws i 5 → b ≡ goesOn last x y → (q p : Put) (after : List ℕ) → Continues (putLine knifeTable b x y z w) before at q after → q ≡ p → Steps ws path i last before at (stepOf p z w) after
+    pub its-line : (x y z w : ℕ) (b : Bool) → x ≡ word ws i 2 → y ≡ word ws i 3 → z ≡ word ws i 4 → w ≡ word ws i 5 → b ≡ goesOn last x y → (q p : Put) (after : List ℕ) → Continues (putLine (rangeOf New) b x y z w) before at q after → q ≡ p → Steps ws path i last before at (stepOf p z w) after
     its-line x y z w b ex ey ez ew eb q p after k e = rw (sym e, ez, ew) (by-result q after (rw (eb, ex, ey, ez, ew) at k))
 
 -- ---- the records left
 unfoldable pub left : List ℕ → ℕ → List ℕ → ℕ → Last → ℕ → Outcome
-left ws path bs at last i = finish at bs (exportFrom knifeTable path ws (length bs - at) last (count ws - i) i)
+left ws path bs at last i = finish at bs (exportFrom (rangeOf New) path ws (length bs - at) last (count ws - i) i)
 
 pub none-left : (ws : List ℕ) (path : ℕ) (bs : List ℕ) (at : ℕ) (last : Last) (i : ℕ) → count ws ≤ i → outcome (Whole at) bs ≡ left ws path bs at last i
 unfolding left exportFrom answerOf
@@ -241,4 +242,4 @@ module _ (ws : List ℕ) (path : ℕ) (bs : List ℕ) where
   unfolding cutOf exportOf left
   opened h =
       rw (le-ltb (length bs) 3 h, length-sets bs 0 (73 ∷ 78 ∷ 59 ∷ []), sub-zero (count ws))
-      (sym (stored-finish {xs = 73 ∷ 78 ∷ 59 ∷ []} (record { place = refl; bytes = refl }) (exportFrom knifeTable path ws (length bs - 3) Nowhere (count ws) 0)))
+      (sym (stored-finish {xs = 73 ∷ 78 ∷ 59 ∷ []} (record { place = refl; bytes = refl }) (exportFrom (rangeOf New) path ws (length bs - 3) Nowhere (count ws) 0)))

@@ -6,6 +6,8 @@ use Prim.{Unit}
 use lib.IntN.{ℤ, pos, negsuc}
 use Rattle.hpgl.specs.Text.{numeral}
 use Rattle.hpgl.specs.declared.Point.{Point}
+use Rattle.hpgl.specs.declared.Table.{Table}
+use Rattle.hpgl.specs.declared.Table.the-variants.{Old, New}
 
 pub record Line : Type 0 where
   pub from : Point
@@ -56,8 +58,10 @@ pub record Range : Type 0 where
   pub below : ℕ
   pub above : ℕ
 
-unfoldable pub knifeTable : Range
-knifeTable = record { below = 32767; above = 32767 }
+-- the two tables
+unfoldable pub rangeOf : Table → Range
+rangeOf Old = record { below = 32767; above = 32767 }
+rangeOf New = record { below = 8388608; above = 8388607 }
 
 -- the largest size of a number with that sign
 abbrev pub most : Range → Bool → ℕ

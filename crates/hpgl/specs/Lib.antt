@@ -2,6 +2,7 @@ pub mod Answers
 pub mod Text
 pub mod TextLaws
 pub mod Form
+pub mod Ranges
 pub mod Reading
 pub mod Numbers
 pub mod Sound
@@ -12,7 +13,10 @@ pub mod Bits
 pub mod Export
 pub mod ExportLaws
 pub mod RoundTrip
+pub mod Tables
 pub mod Examples
+pub mod Held
+pub mod Past
 pub mod Language
 pub mod ReadingLaws
 pub mod Completion

@@ -2,11 +2,12 @@
 ghost use Prim.Native.Nat.{_≤_};
 ghost use mathlib.Core.Path.{_≡_};
 ghost use lib.ListN.{length};
-ghost use Rattle.hpgl.specs.Form.{knifeTable};
+ghost use Rattle.hpgl.specs.Form.{rangeOf};
 ghost use Rattle.hpgl.specs.CommandLaws.{penOf, commandText};
 ghost use Rattle.hpgl.specs.Export.{put, goesOn, putLine, outcome, cutOf, cutReport};
 ghost use Rattle.hpgl.specs.ExportLaws.{Texted, Continues, Steps, left};
 use crate::Report;
+use crate::Table;
 use crate::rounding::Rounded;
 use crate::rounding::coordinate;
 use crate::text::command_length;
@@ -55,7 +56,7 @@ fn put_text(out: &mut [u8], at: usize, draws: bool, sx: bool, x: u32, sy: bool, 
 // A command to the point of two words.
 fn put_command(out: &mut [u8], at: usize, draws: bool, x: u32, y: u32) -> Put
     requires { ⌜ at ≤ length (now out) ⌝ }
-    ensures { λ r. ⌜ Continues (put knifeTable (penOf draws) x y) (now (out .entry)) at r (now (out .exit)) ⌝ }
+    ensures { λ r. ⌜ Continues (put (rangeOf Table.New) (penOf draws) x y) (now (out .entry)) at r (now (out .exit)) ⌝ }
 {
     match coordinate(x) {
         Rounded::Bad => Put::Bad(at),
@@ -69,7 +70,7 @@ fn put_command(out: &mut [u8], at: usize, draws: bool, x: u32, y: u32) -> Put
 // A line from (x, y) to (z, w), which goes on from the last one or starts a chain.
 fn put_line(out: &mut [u8], at: usize, joined: bool, x: u32, y: u32, z: u32, w: u32) -> Put
     requires { ⌜ at ≤ length (now out) ⌝ }
-    ensures { λ r. ⌜ Continues (putLine knifeTable joined x y z w) (now (out .entry)) at r (now (out .exit)) ⌝ }
+    ensures { λ r. ⌜ Continues (putLine (rangeOf Table.New) joined x y z w) (now (out .entry)) at r (now (out .exit)) ⌝ }
 {
     if joined {
         return put_command(out, at, true, z, w);

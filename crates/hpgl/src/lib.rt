@@ -1,8 +1,15 @@
 // HP-GL: the lines of one path as cuts for the knife table, and the reader of such files.
 pub mod export;
+mod range;
 pub mod reading;
 mod rounding;
 mod text;
+
+// Which knife table: the old one takes -32767 to 32767, the new one -8388608 to 8388607.
+pub enum Table {
+    Old,
+    New,
+}
 
 // A point in plotter units.
 pub struct Point {

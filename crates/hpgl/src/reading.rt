@@ -4,12 +4,14 @@ ghost use mathlib.Core.Path.{_≡_};
 ghost use mathlib.Core.List.{[], _∷_};
 ghost use lib.ListN.{length, drop, getD};
 ghost use lib.Seq.{sets};
-ghost use Rattle.hpgl.specs.Form.{knifeTable, Within};
+ghost use Rattle.hpgl.specs.Form.{rangeOf, Within};
 ghost use Rattle.hpgl.specs.Reading.{byteOf, valueOf, kept, onDash, onDigit, onOther, numStep, first, second, free, upFrom, downFrom, run, ending, told, backOf, readingOf, backReport};
 ghost use Rattle.hpgl.specs.Numbers.{Good};
 ghost use Rattle.hpgl.specs.ReadingLaws.{Numbered, Reaches, Commands, Lifts, Draws, Lettered, unread, byteIs};
 use crate::Point;
 use crate::Report;
+use crate::Table;
+use crate::range::most_of;
 
 // What a reading answers, with the count of lines that stand: the whole file; or the position of the
 // first byte that is not of the form, of a number out of range, of a PD whose line has no room.
@@ -44,17 +46,17 @@ enum Stand {
 }
 
 // The size w + 1, where the range has it.
-fn keep(s: bool, w: u32) -> NumStep
-    ensures { λ r. ⌜ r ≡ kept knifeTable s w ⌝ }
+fn keep(s: bool, w: u32, table: Table) -> NumStep
+    ensures { λ r. ⌜ r ≡ kept (rangeOf table) s w ⌝ }
 {
-    if w < 32767 {
+    if w < most_of(table, s) {
         return NumStep::Goes(Num::Some(s, w));
     }
     NumStep::Beyond
 }
 
 fn value_of(s: bool, w: u32) -> i32
-    requires { ⌜ w < 32767 ⌝ }
+    requires { ⌜ w < 8388608 ⌝ }
     ensures { λ r. ⌜ r ≡ valueOf s w ⌝ }
 {
     let size = (w + 1) as i32;
@@ -75,31 +77,31 @@ fn on_dash(n: Num) -> NumStep
     }
 }
 
-fn on_digit(n: Num, d: u32) -> NumStep
-    requires { ⌜ Good knifeTable n × (d < 10) ⌝ }
-    ensures { λ r. ⌜ r ≡ onDigit knifeTable n d ⌝ }
+fn on_digit(n: Num, d: u32, table: Table) -> NumStep
+    requires { ⌜ Good (rangeOf table) n × (d < 10) ⌝ }
+    ensures { λ r. ⌜ r ≡ onDigit (rangeOf table) n d ⌝ }
 {
     match n {
         Num::None => {
             if d == 0 {
                 return NumStep::Goes(Num::Naught);
             }
-            keep(false, d - 1)
+            keep(false, d - 1, table)
         }
         Num::Dashed => {
             if d == 0 {
                 return NumStep::Wrong;
             }
-            keep(true, d - 1)
+            keep(true, d - 1, table)
         }
         Num::Naught => NumStep::Wrong,
-        Num::Some(s, w) => keep(s, w * 10 + 9 + d),
+        Num::Some(s, w) => keep(s, w * 10 + 9 + d, table),
     }
 }
 
 // A byte that is no part of a number, and is the one behind it or is not.
 fn on_other(ends: bool, n: Num) -> NumStep
-    requires { ⌜ Good knifeTable n ⌝ }
+    requires { ⌜ Good (rangeOf Table.New) n ⌝ }
     ensures { λ r. ⌜ r ≡ onOther ends n ⌝ }
 {
     if !ends {
@@ -113,9 +115,9 @@ fn on_other(ends: bool, n: Num) -> NumStep
     }
 }
 
-fn num_step(ends: bool, n: Num, b: u8) -> NumStep
-    requires { ⌜ Good knifeTable n ⌝ }
-    ensures { λ r. ⌜ r ≡ numStep knifeTable ends n (byteOf b) ⌝ }
+fn num_step(ends: bool, n: Num, b: u8, table: Table) -> NumStep
+    requires { ⌜ Good (rangeOf table) n ⌝ }
+    ensures { λ r. ⌜ r ≡ numStep (rangeOf table) ends n (byteOf b) ⌝ }
 {
     if b == b'-' {
         return on_dash(n);
@@ -124,7 +126,7 @@ fn num_step(ends: bool, n: Num, b: u8) -> NumStep
         return on_other(ends, n);
     }
     if b < 58 {
-        return on_digit(n, (b - 48) as u32);
+        return on_digit(n, (b - 48) as u32, table);
     }
     on_other(ends, n)
 }
@@ -136,15 +138,15 @@ enum Number {
     Beyond,
 }
 
-fn read_number(file: &[u8], start: usize, ends: u8) -> Number
+fn read_number(file: &[u8], start: usize, ends: u8, table: Table) -> Number
     requires { ⌜ start ≤ length (now file) ⌝ }
-    ensures { λ r. ⌜ Numbered (now (file .entry)) start ends r ⌝ }
+    ensures { λ r. ⌜ Numbered table (now (file .entry)) start ends r ⌝ }
 {
     let mut n = Num::None;
     let mut at = start;
     while at < file.len() {
         let b = file[at];
-        match num_step(b == ends, n, b) {
+        match num_step(b == ends, n, b, table) {
             NumStep::Goes(m) => n = m,
             NumStep::Done(z) => return Number::Whole(z, at),
             NumStep::Wrong => return Number::Wrong(at),
@@ -163,23 +165,23 @@ enum Place {
     Beyond(usize),
 }
 
-fn read_y(file: &[u8], x: i32, start: usize) -> Place
-    requires { ⌜ (start ≤ length (now file)) × Within knifeTable x ⌝ }
-    ensures { λ r. ⌜ Reaches (now (file .entry)) start (λ c k p. second c k p x start Num.None) r ⌝ }
+fn read_y(file: &[u8], x: i32, start: usize, table: Table) -> Place
+    requires { ⌜ (start ≤ length (now file)) × Within (rangeOf table) x ⌝ }
+    ensures { λ r. ⌜ Reaches table (now (file .entry)) start (λ c k p. second c k p x start Num.None) r ⌝ }
 {
-    match read_number(file, start, b';') {
+    match read_number(file, start, b';', table) {
         Number::Whole(y, at) => Place::At(Point { x, y }, at),
         Number::Wrong(at) => Place::Wrong(at),
         Number::Beyond => Place::Beyond(start),
     }
 }
 
-fn read_point(file: &[u8], start: usize) -> Place
+fn read_point(file: &[u8], start: usize, table: Table) -> Place
     requires { ⌜ start ≤ length (now file) ⌝ }
-    ensures { λ r. ⌜ Reaches (now (file .entry)) start (λ c k p. first c k p start Num.None) r ⌝ }
+    ensures { λ r. ⌜ Reaches table (now (file .entry)) start (λ c k p. first c k p start Num.None) r ⌝ }
 {
-    match read_number(file, start, b',') {
-        Number::Whole(x, at) => read_y(file, x, at + 1),
+    match read_number(file, start, b',', table) {
+        Number::Whole(x, at) => read_y(file, x, at + 1, table),
         Number::Wrong(at) => Place::Wrong(at),
         Number::Beyond => Place::Beyond(start),
     }
@@ -195,11 +197,11 @@ enum Command {
 }
 
 // The rest of a PU whose P is at a position.
-fn lift(file: &[u8], at: usize) -> Command
+fn lift(file: &[u8], at: usize, table: Table) -> Command
     requires { ⌜ at + 2 ≤ length (now file) ⌝ }
-    ensures { λ r. ⌜ Lifts (now (file .entry)) at r ⌝ }
+    ensures { λ r. ⌜ Lifts table (now (file .entry)) at r ⌝ }
 {
-    match read_point(file, at + 2) {
+    match read_point(file, at + 2, table) {
         Place::At(t, end) => Command::Up(t, end + 1),
         Place::Wrong(p) => Command::Wrong(p),
         Place::Beyond(p) => Command::Beyond(p),
@@ -207,11 +209,11 @@ fn lift(file: &[u8], at: usize) -> Command
 }
 
 // The rest of a PD that draws from q.
-fn draw(file: &[u8], at: usize, q: Point) -> Command
+fn draw(file: &[u8], at: usize, q: Point, table: Table) -> Command
     requires { ⌜ at + 2 ≤ length (now file) ⌝ }
-    ensures { λ r. ⌜ Draws (now (file .entry)) at q r ⌝ }
+    ensures { λ r. ⌜ Draws table (now (file .entry)) at q r ⌝ }
 {
-    match read_point(file, at + 2) {
+    match read_point(file, at + 2, table) {
         Place::At(t, end) => Command::Line(q, t, end + 1),
         Place::Wrong(p) => Command::Wrong(p),
         Place::Beyond(p) => Command::Beyond(p),
@@ -219,32 +221,32 @@ fn draw(file: &[u8], at: usize, q: Point) -> Command
 }
 
 // A PU behind another one is wrong at its U.
-fn pen_up(file: &[u8], at: usize, stand: Stand) -> Command
+fn pen_up(file: &[u8], at: usize, stand: Stand, table: Table) -> Command
     requires { ⌜ at + 2 ≤ length (now file) ⌝ }
-    ensures { λ r. ⌜ Lettered (now (file .entry)) at (upFrom stand at (at + 1)) r ⌝ }
+    ensures { λ r. ⌜ Lettered table (now (file .entry)) at (upFrom stand at (at + 1)) r ⌝ }
 {
     match stand {
-        Stand::Fresh => lift(file, at),
+        Stand::Fresh => lift(file, at, table),
         Stand::Lifted(_) => Command::Wrong(at + 1),
-        Stand::Drawn(_) => lift(file, at),
+        Stand::Drawn(_) => lift(file, at, table),
     }
 }
 
 // A PD before any PU is wrong at its D.
-fn pen_down(file: &[u8], at: usize, stand: Stand) -> Command
+fn pen_down(file: &[u8], at: usize, stand: Stand, table: Table) -> Command
     requires { ⌜ at + 2 ≤ length (now file) ⌝ }
-    ensures { λ r. ⌜ Lettered (now (file .entry)) at (downFrom stand at (at + 1)) r ⌝ }
+    ensures { λ r. ⌜ Lettered table (now (file .entry)) at (downFrom stand at (at + 1)) r ⌝ }
 {
     match stand {
         Stand::Fresh => Command::Wrong(at + 1),
-        Stand::Lifted(q) => draw(file, at, q),
-        Stand::Drawn(q) => draw(file, at, q),
+        Stand::Lifted(q) => draw(file, at, q, table),
+        Stand::Drawn(q) => draw(file, at, q, table),
     }
 }
 
-fn read_command(file: &[u8], at: usize, stand: Stand) -> Command
+fn read_command(file: &[u8], at: usize, stand: Stand, table: Table) -> Command
     requires { ⌜ at < length (now file) ⌝ }
-    ensures { λ r. ⌜ Commands (now (file .entry)) at (λ room. run knifeTable room at (free stand) (drop at (now (file .entry)))) r ⌝ }
+    ensures { λ r. ⌜ Commands table (now (file .entry)) at (λ room. run (rangeOf table) room at (free stand) (drop at (now (file .entry)))) r ⌝ }
 {
     if file[at] != b'P' {
         return Command::Wrong(at);
@@ -254,10 +256,10 @@ fn read_command(file: &[u8], at: usize, stand: Stand) -> Command
     }
     let letter = file[at + 1];
     if letter == b'U' {
-        return pen_up(file, at, stand);
+        return pen_up(file, at, stand, table);
     }
     if letter == b'D' {
-        return pen_down(file, at, stand);
+        return pen_down(file, at, stand, table);
     }
     Command::Wrong(at + 1)
 }
@@ -289,16 +291,16 @@ fn ended(stand: Stand, count: usize, at: usize) -> ReadBack
 }
 
 // The commands behind the first bytes.
-fn read_all(file: &[u8], start: usize, lines: &mut [i32]) -> ReadBack
+fn read_all(file: &[u8], start: usize, lines: &mut [i32], table: Table) -> ReadBack
     requires { ⌜ start ≤ length (now file) ⌝ }
-    ensures { λ r. ⌜ told r (now (lines .exit)) ≡ unread (now (file .entry)) (now (lines .entry)) 0 start Stand.Fresh ⌝ }
+    ensures { λ r. ⌜ told r (now (lines .exit)) ≡ unread table (now (file .entry)) (now (lines .entry)) 0 start Stand.Fresh ⌝ }
 {
     let room = lines.len() / 4;
     let mut at = start;
     let mut stand = Stand::Fresh;
     let mut count: usize = 0;
     while at < file.len() {
-        match read_command(file, at, stand) {
+        match read_command(file, at, stand, table) {
             Command::Up(t, next) => {
                 stand = Stand::Lifted(t);
                 at = next;
@@ -328,9 +330,9 @@ fn is_at(file: &[u8], at: usize, b: u8) -> bool
     false
 }
 
-// The lines of a file, four numbers each; numbers behind the last whole line are not touched.
-pub fn read(file: &[u8], lines: &mut [i32]) -> ReadBack
-    ensures { λ r. ⌜ told r (now (lines .exit)) ≡ readingOf (now (file .entry)) (now (lines .entry)) ⌝ }
+// The lines of a file by the reader that is set to a table, four numbers each; numbers behind the last whole line are not touched.
+pub fn read(file: &[u8], lines: &mut [i32], table: Table) -> ReadBack
+    ensures { λ r. ⌜ told r (now (lines .exit)) ≡ readingOf table (now (file .entry)) (now (lines .entry)) ⌝ }
 {
     if !is_at(file, 0, b'I') {
         return ReadBack::Malformed(0, 0);
@@ -341,7 +343,7 @@ pub fn read(file: &[u8], lines: &mut [i32]) -> ReadBack
     if !is_at(file, 2, b';') {
         return ReadBack::Malformed(0, 2);
     }
-    read_all(file, 3, lines)
+    read_all(file, 3, lines, table)
 }
 
 impl ReadBack {
@@ -361,7 +363,7 @@ impl ReadBack {
                 at: p,
             },
             ReadBack::TooFar(n, p) => Report {
-                number: 33,
+                number: 32,
                 stands: n,
                 at: p,
             },

@@ -2,8 +2,10 @@
 ghost use mathlib.Core.Path.{_≡_};
 ghost use Prim.Native.Nat.{_≤_, _<_};
 ghost use lib.Ieee.Nearest.{closest};
-ghost use Rattle.hpgl.specs.Form.{knifeTable};
+ghost use Rattle.hpgl.specs.Form.{rangeOf};
 ghost use Rattle.hpgl.specs.Bits.{sizeOf, Rounds};
+use crate::Table;
+use crate::range::most_of;
 
 // m / unit.
 fn nearest_of(m: u32, unit: u32) -> u32
@@ -32,22 +34,23 @@ fn size_of(field: u32, digits: u32) -> u32
     nearest_of(8388608 + digits, 1 << (150 - field))
 }
 
-// A coordinate as a whole number: its sign and size, or that it is a NaN or out of range.
+// A coordinate as a whole number: its sign and size, or that it is a NaN or out of the new table's range.
 pub(crate) enum Rounded {
     Bad,
     To(bool, u32),
 }
 
 pub(crate) fn coordinate(word: u32) -> Rounded
-    ensures { λ r. ⌜ Rounds knifeTable word r ⌝ }
+    ensures { λ r. ⌜ Rounds (rangeOf Table.New) word r ⌝ }
 {
     let field = word % 2147483648 / 8388608;
     if field > 150 {
         return Rounded::Bad;
     }
     let size = size_of(field, word % 8388608);
-    if size > 32767 {
+    let negative = word >= 2147483648;
+    if size > most_of(Table::New, negative) {
         return Rounded::Bad;
     }
-    Rounded::To(word >= 2147483648, size)
+    Rounded::To(negative, size)
 }

@@ -1,6 +1,8 @@
 """hinth cut: the lines of one path as HP-GL, for the knife table."""
+from typing import Tuple
+
 from ..cli import DONE, REFUSED, Parser
-from ..cutting import NotCut, hpgl_of
+from ..cutting import NotCut, Table, hpgl_of, outside, reach_of, record_at
 from ..errors import Wrong
 from ..files import name_of, same, target
 from ..opening import load
@@ -8,13 +10,14 @@ from ..progress import Progress
 from ..records import Records, read_records
 from ..saying import say
 
-HELP = """usage: hinth cut LIST --path P [-o FILE]
+HELP = """usage: hinth cut LIST --path P [--table old|new] [-o FILE]
 
 Writes the lines of one path as HP-GL, for the knife table.
 
   LIST      the list: what flatlist or `hinth flatten` writes, as text or packed; or its records alone, six words of eight
             hex digits a line, or packed little-endian words without a head; - is standard input
   --path P  the number of the path to cut
+  --table   old or new, for which knife table; new, if it is not said
   -o FILE   writes the file there; else it goes to standard output
 
 Examples:
@@ -27,18 +30,23 @@ The file is `IN;`, and for each chain of lines a `PU` to its start and a `PD` to
 A unit of the list is a plotter unit. Coordinates are taken to the nearest whole number, ties to even. A new chain starts
 whenever a line does not begin on the bits where the last line of the path ended; so a closed fill is a closed cut.
 
-The file is written only if it is whole. Where a coordinate is no number or, rounded, outside -32767 to 32767, the record is
-told, counted from 0 over the whole list; scale or move the drawing. A path without lines is `IN;` alone, and is told.
+The file is written only if it is whole and the table takes it: the new one takes -8388608 to 8388607, the old one -32767 to
+32767. Where a coordinate is no number or, rounded, outside that, the record is told, counted from 0 over the whole list;
+scale or move the drawing. A file that both take is the same for both. A path without lines is `IN;` alone, and is told.
 
 The exit status is 0 if the file is written; 1 if the list is refused, or says that it was refused itself, since it is not
 whole; 2 for bad input.
 """
 
 
+TABLES = {table.name.lower(): table for table in Table}
+
+
 def arguments(parser: Parser) -> None:
     """What the command takes."""
     parser.add_argument("list", metavar="LIST")
     parser.add_argument("--path", type=path_of, metavar="P", required=True)
+    parser.add_argument("--table", choices=TABLES, default="new")
     parser.add_argument("-o", dest="file", metavar="FILE", default="-")
 
 
@@ -52,11 +60,24 @@ def path_of(word: str) -> int:
 path_of.__name__ = "path number"  # as argparse tells it
 
 
-def about_refusal(records: Records, why: NotCut) -> str:
+def about_refusal(records: Records, number: int, place: int, why: str) -> str:
     """The record that was in turn, and what is wrong with it."""
-    line = f" (line {records.line + why.place:,})" if records.line else ""
-    return (f"{records.name}: refused {why.number} at record {why.place:,}, counted from 0{line}: a coordinate is no number "
-            "or, rounded, outside -32767 to 32767; scale or move the drawing; nothing is written")
+    line = f" (line {records.line + place:,})" if records.line else ""
+    return (f"{records.name}: refused {number} at record {place:,}, counted from 0{line}: {why}; scale or move the drawing; "
+            "nothing is written")
+
+
+def file_of(records: Records, path: int, table: Table) -> Tuple[bytes, str]:
+    """The path's file; and why it is refused, which is empty where the table takes it."""
+    try:
+        file = hpgl_of(records.words, path)
+    except NotCut as why:
+        return b"", about_refusal(records, why.number, why.place, f"a coordinate is no number or, rounded, outside {reach_of(Table.NEW)}")
+    position = outside(file, table)
+    if position is None:
+        return file, ""
+    place = record_at(records.words, path, position)
+    return b"", about_refusal(records, 32, place, f"a coordinate is, rounded, outside {reach_of(table)}, what the old table takes")
 
 
 def run(options) -> int:
@@ -69,10 +90,9 @@ def run(options) -> int:
         if records.refusal:
             say(f"{records.name}: the list is not whole: {records.refusal}; nothing is written")
             return REFUSED
-        try:
-            file = hpgl_of(records.words, options.path)
-        except NotCut as why:
-            say(about_refusal(records, why))
+        file, refusal = file_of(records, options.path, TABLES[options.table])
+        if refusal:
+            say(refusal)
             return REFUSED
         with target(options.file) as out:
             out.write(file)

@@ -25,6 +25,8 @@ class Found(NamedTuple):
     lines: Lines
     boxes: Boxes
     moves: Lines
+    outside: Lines
+    table: str
     outlines: List[Outline]
     far: List[int]
 

@@ -195,6 +195,13 @@ def moves_drawn(found: Found, frame: Frame, colour: str) -> List[str]:
     return [inked(moves, colour, 1, dashes)] if moves else []
 
 
+def outside_drawn(found: Found, frame: Frame) -> List[str]:
+    """The lines of a cut that the old table does not take, edged in red. The pointer goes through them, to a line."""
+    starts, ends = frame.all_at(found.outside.starts), frame.all_at(found.outside.ends)
+    lines = [way(start, end) for start, end in zip(starts, ends)]
+    return [inked(lines, RED, 1, ' class="outside" pointer-events="none"')] if lines else []
+
+
 def ring(outline: Outline, point: int, frame: Frame, radius: int) -> str:
     place, (starts, ends) = place_of(point), outline.open[point]
     cx, cy = map(digits, frame.at(place))
@@ -240,7 +247,7 @@ def one_drawn(found: Found, frame: Frame, wishes: Wishes) -> List[str]:
     drawn += boxes_drawn(found, frame, path_colour, 0, Counter())
     colours = [path_colour(outline.path) for outline in found.outlines]
     layers = [Layer(outline.lines, colour, 2, (colour, STRONG)) for outline, colour in zip(found.outlines, colours)]
-    drawn += layers_drawn(layers, frame, wishes) + moves_drawn(found, frame, INK)
+    drawn += layers_drawn(layers, frame, wishes) + moves_drawn(found, frame, INK) + outside_drawn(found, frame)
     return drawn + [rings_drawn(found, frame, 8)]
 
 
@@ -262,5 +269,5 @@ def two_drawn(first: Found, second: Found, frame: Frame, wishes: Wishes) -> List
         drawn += boxes_drawn(found, frame, colour, side, taken)
     drawn += layers_drawn(list(layers_of_two(first, second)), frame, wishes)
     for found, (colour, _) in zip((first, second), ALONE):
-        drawn += moves_drawn(found, frame, colour)
+        drawn += moves_drawn(found, frame, colour) + outside_drawn(found, frame)
     return drawn + [rings_drawn(first, frame, 11), rings_drawn(second, frame, 7)]

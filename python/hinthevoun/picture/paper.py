@@ -88,7 +88,7 @@ def extent(axis: str, first: float, way_there: str, last: float, millimetres: Op
     return words if millimetres is None else f"{words}: {(last - first) * millimetres:.6g} mm"
 
 
-def key_rows(frame: Frame, wishes: Wishes, moves: bool) -> List[Row]:
+def key_rows(frame: Frame, wishes: Wishes, moves: bool, outside: bool) -> List[Row]:
     """What the marks mean, and which way the axes point."""
     dashes = inked([rectangle((4, -5), (SWATCH - 10, 5))], GREY, 1, ' stroke-dasharray="4 4"')
     circle = inked([f'<circle cx="{SWATCH // 2 - 3}" cy="0" r="7"/>'], RED, 2)
@@ -97,6 +97,8 @@ def key_rows(frame: Frame, wishes: Wishes, moves: bool) -> List[Row]:
     if moves:
         mark = inked([way((4, 0), (SWATCH - 10, 0))], GREY, 1, ' stroke-dasharray="2 6"')
         rows.append(Row("move with the pen up", GREY, mark=mark))
+    if outside:
+        rows.append(Row("line that the old table does not take", GREY, mark=sample((RED, 1))))
     if wishes.ink:
         mark = f'<g fill="{GREY}" fill-opacity="0.3">{rectangle((4, -6), (SWATCH - 10, 6))}</g>'
         rows.append(Row("ink: what a fill of the path covers, by its own rule", GREY, mark=mark))
@@ -156,7 +158,7 @@ def paper_of(lists: List[Found], wishes: Wishes) -> Paper:
     else:
         first, second = lists
         drawn, legend = two_drawn(first, second, frame, wishes), two_rows(first, second, wishes)
-    legend += key_rows(frame, wishes, any(found.moves.paths for found in lists))
+    legend += key_rows(frame, wishes, any(found.moves.paths for found in lists), any(found.outside.paths for found in lists))
     top = MARGIN + ROW * len(head) + MARGIN
     below = top + frame.height + MARGIN
     bar = "" if frame.is_empty else bar_drawn(frame, wishes.millimetres, MARGIN, below)

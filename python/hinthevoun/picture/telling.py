@@ -3,6 +3,7 @@ from itertools import zip_longest
 from typing import Collection, List, Optional, Sequence, Tuple
 
 from ..columns import finite_points, place_of
+from ..cutting import Table, reach_of
 from ..saying import count
 from .counting import Found, Outline, shared_and_alone
 from .geometry import greatest_gap
@@ -83,7 +84,11 @@ def lacks_of(found: Found) -> List[str]:
 
 def notes_of(found: Found) -> List[str]:
     """What a reader may miss, though the picture lacks nothing."""
-    return [] if found.lines.paths else ["the list has no lines"]
+    notes = [] if found.lines.paths else ["the list has no lines"]
+    if found.table:
+        beyond = len(found.outside.paths)
+        notes.append(f"fits {found.table}" + (f": {count(beyond, 'line')} outside {reach_of(Table.OLD)}" if beyond else ""))
+    return notes
 
 
 def about_lines(first: Found, second: Found) -> Tuple[str, str, str]:

@@ -12,6 +12,9 @@ use Rattle.exports.specs.Cut.{linesRead, linesReadOf}
 use Rattle.exports.proofs.cut.hinth_read_cut.Statement.{statement}
 use Rattle.exports.proofs.cut.hinth_read_cut.Tie as tie
 
+table-of-requires : tie.Need-table-of-requires
+table-of-requires c κs = search needs
+
 read-requires : tie.Need-read-requires
 read-requires c κs = search needs
 
@@ -32,9 +35,9 @@ unfolding linesReadOf
 told-lines a zs o t os os' e f g = rw (sym e, g, f)
 
 returns : tie.Need-returns
-returns c = told-lines (c .before .before .before .before .before .before .read .result) _ _ (c .before .before .before .before .report .result) _ _ (c .before .before .before .before .before .before .read .ensures) (c .before .before .before .before .report .ensures) (c .before .before .put-two .ensures)
+returns c = told-lines (c .before .before .before .before .before .before .read .result) _ _ (c .before .before .before .before .report .result) _ _ (rw (c .before .before .before .before .before .before .before .table-of .ensures) at (c .before .before .before .before .before .before .read .ensures)) (c .before .before .before .before .report .ensures) (c .before .before .put-two .ensures)
 
 pub hinth-read-cut-spec : {M : Type 1} → statement M
 hinth-read-cut-spec =
     tie.close
-    (tie.spec read-requires report-requires put-two-requires same-length same-length-2 returns)
+    (tie.spec table-of-requires read-requires report-requires put-two-requires same-length same-length-2 returns)

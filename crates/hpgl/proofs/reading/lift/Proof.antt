@@ -14,8 +14,8 @@ read-point-requires c κs = search needs
 enum-known-t : tie.Need-enum-known-t
 enum-known-t c = search needs
 
-add-t10 : tie.Need-add-t10
-add-t10 c = omega (arith, place-fits (c .before .before .before .before .before .args .file .now) (c .before .before .before .before .before .args .at) (c .before .before .before .read-point .result) (c .before .before .before .read-point .ensures) _ _ (c .before .t .given .1), c .before .before .before .before .before .good .0)
+add-t11 : tie.Need-add-t11
+add-t11 c = omega (arith, place-fits (c .before .before .before .before .before .args .table) (c .before .before .before .before .before .args .file .now) (c .before .before .before .before .before .args .at) (c .before .before .before .read-point .result) (c .before .before .before .read-point .ensures) _ _ (c .before .t .given .1), c .before .before .before .before .before .good .0)
 
 enum-known-p : tie.Need-enum-known-p
 enum-known-p c = search needs
@@ -24,13 +24,13 @@ enum-known-p-2 : tie.Need-enum-known-p-2
 enum-known-p-2 c = search needs
 
 returns : tie.Need-returns
-returns c = lift-at (c .before .before .before .before .before .args .file .now) (c .before .before .before .before .before .args .at) (c .before .before .before .read-point .result) (c .before .before .before .read-point .ensures) _ _ (c .before .t .given .1)
+returns c = lift-at (c .before .before .before .before .before .args .table) (c .before .before .before .before .before .args .file .now) (c .before .before .before .before .before .args .at) (c .before .before .before .read-point .result) (c .before .before .before .read-point .ensures) _ _ (c .before .t .given .1)
 
 returns-2 : tie.Need-returns-2
-returns-2 c = lift-wrong (c .before .before .before .before .before .args .file .now) (c .before .before .before .before .before .args .at) (c .before .before .before .read-point .result) (c .before .before .before .read-point .ensures) _ (c .before .p .given .1)
+returns-2 c = lift-wrong (c .before .before .before .before .before .args .table) (c .before .before .before .before .before .args .file .now) (c .before .before .before .before .before .args .at) (c .before .before .before .read-point .result) (c .before .before .before .read-point .ensures) _ (c .before .p .given .1)
 
 returns-3 : tie.Need-returns-3
-returns-3 c = lift-beyond (c .before .before .before .before .before .args .file .now) (c .before .before .before .before .before .args .at) (c .before .before .before .read-point .result) (c .before .before .before .read-point .ensures) _ (c .before .p2 .given .1)
+returns-3 c = lift-beyond (c .before .before .before .before .before .args .table) (c .before .before .before .before .before .args .file .now) (c .before .before .before .before .before .args .at) (c .before .before .before .read-point .result) (c .before .before .before .read-point .ensures) _ (c .before .p2 .given .1)
 
 pub lift-spec : {M : Type 1} → statement M
 lift-spec =
@@ -39,7 +39,7 @@ lift-spec =
     add-read-point
     read-point-requires
     enum-known-t
-    add-t10
+    add-t11
     enum-known-p
     enum-known-p-2
     returns

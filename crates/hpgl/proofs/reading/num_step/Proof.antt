@@ -2,7 +2,7 @@
 use borrow.Author.Needs.{needs}
 use mathlib.Core.Path.{_∙_}
 use Rattle.hpgl.specs.Reading.{numStep}
-use Rattle.hpgl.specs.ReadingLaws.{byte-dash, byte-low, byte-digit, byte-high}
+use Rattle.hpgl.specs.ReadingLaws.{good-new, byte-dash, byte-low, byte-digit, byte-high}
 use Rattle.hpgl.proofs.reading.num_step.Statement.{statement}
 use Rattle.hpgl.proofs.reading.num_step.Tie as tie
 
@@ -14,7 +14,7 @@ unfolding numStep
 returns c = c .on-dash .ensures ∙ rw (byte-dash (c .before .before .args .b) (c .before .if1 .taken))
 
 on-other-requires : tie.Need-on-other-requires
-on-other-requires c κs = search needs
+on-other-requires c κs = good-new (c .before .before .args .table) (c .before .before .args .n) (c .before .before .pre)
 
 returns-2 : tie.Need-returns-2
 unfolding numStep
@@ -31,7 +31,7 @@ unfolding numStep
 returns-3 c = c .on-digit .ensures ∙ rw (byte-digit (c .before .before .before .before .args .b) (c .before .before .before .if1 .left) (c .before .before .if2 .left) (c .before .if3 .taken))
 
 on-other-requires-2 : tie.Need-on-other-requires-2
-on-other-requires-2 c κs = search needs
+on-other-requires-2 c κs = good-new (c .before .before .before .args .table) (c .before .before .before .args .n) (c .before .before .before .pre)
 
 returns-4 : tie.Need-returns-4
 unfolding numStep

@@ -3,6 +3,7 @@ use borrow.Author.Needs.{needs}
 use mathlib.Core.Path.{ap}
 use borrow.Author.Tests.{not-true, not-false}
 use Rattle.hpgl.specs.ReadingLaws.{other-wrong, good-some}
+use Rattle.hpgl.specs.declared.Table.the-variants.{New}
 use Rattle.hpgl.specs.declared.reading.NumStep.the-variants.{Done}
 use Rattle.hpgl.proofs.Signed.{value-back}
 use Rattle.hpgl.proofs.reading.on_other.Statement.{statement}
@@ -24,7 +25,7 @@ enum-known-n : tie.Need-enum-known-n
 enum-known-n c = search needs
 
 value-of-requires : tie.Need-value-of-requires
-value-of-requires c κs = good-some (c .before .before .before .before .args .n) _ _ (c .before .n .given .1) (c .before .before .before .before .pre)
+value-of-requires c κs = good-some New (c .before .before .before .before .args .n) _ _ (c .before .n .given .1) (c .before .before .before .before .pre)
 
 returns-2 : tie.Need-returns-2
 returns-2 c = search needs
@@ -36,7 +37,7 @@ returns-4 : tie.Need-returns-4
 returns-4 c = rw (c .enum-told3 .given .1, not-false (c .before .before .before .args .ends) (c .before .before .if1 .left))
 
 returns-5 : tie.Need-returns-5
-returns-5 c = rw (c .before .before .n .given .1, not-false (c .before .before .before .before .before .args .ends) (c .before .before .before .before .if1 .left), c .value-of .ensures) (ap Done (value-back _ _ (good-some (c .before .before .before .before .before .args .n) _ _ (c .before .before .n .given .1) (c .before .before .before .before .before .pre))))
+returns-5 c = rw (c .before .before .n .given .1, not-false (c .before .before .before .before .before .args .ends) (c .before .before .before .before .if1 .left), c .value-of .ensures) (ap Done (value-back _ _ (good-some New (c .before .before .before .before .before .args .n) _ _ (c .before .before .n .given .1) (c .before .before .before .before .before .pre))))
 
 pub on-other-spec : {M : Type 1} → statement M
 on-other-spec =

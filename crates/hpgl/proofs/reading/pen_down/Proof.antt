@@ -7,8 +7,8 @@ use Rattle.hpgl.proofs.reading.pen_down.Tie as tie
 enum-told : tie.Need-enum-told
 enum-told c = search needs
 
-add-t7 : tie.Need-add-t7
-add-t7 c = search needs
+add-t8 : tie.Need-add-t8
+add-t8 c = search needs
 
 enum-known-stand : tie.Need-enum-known-stand
 enum-known-stand c = search needs
@@ -23,20 +23,20 @@ draw-requires-2 : tie.Need-draw-requires-2
 draw-requires-2 c κs = search needs
 
 returns : tie.Need-returns
-returns c = rw (c .enum-told .given .1) (down-fresh (c .before .before .before .args .file .now) (c .before .before .before .args .at))
+returns c = rw (c .enum-told .given .1) (down-fresh (c .before .before .before .args .table) (c .before .before .before .args .file .now) (c .before .before .before .args .at))
 
 returns-2 : tie.Need-returns-2
-returns-2 c = rw (c .before .before .stand .given .1) (down-lifted (c .before .before .before .before .before .args .file .now) (c .before .before .before .before .before .args .at) _ _ (c .draw .ensures))
+returns-2 c = rw (c .before .before .stand .given .1) (down-lifted (c .before .before .before .before .before .args .table) (c .before .before .before .before .before .args .file .now) (c .before .before .before .before .before .args .at) _ _ (c .draw .ensures))
 
 returns-3 : tie.Need-returns-3
-returns-3 c = rw (c .before .before .stand2 .given .1) (down-drawn (c .before .before .before .before .before .args .file .now) (c .before .before .before .before .before .args .at) _ _ (c .draw2 .ensures))
+returns-3 c = rw (c .before .before .stand2 .given .1) (down-drawn (c .before .before .before .before .before .args .table) (c .before .before .before .before .before .args .file .now) (c .before .before .before .before .before .args .at) _ _ (c .draw2 .ensures))
 
 pub pen-down-spec : {M : Type 1} → statement M
 pen-down-spec =
     tie.close
     (tie.spec
     enum-told
-    add-t7
+    add-t8
     enum-known-stand
     draw-requires
     enum-known-stand-2

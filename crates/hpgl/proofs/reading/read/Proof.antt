@@ -10,28 +10,28 @@ is-at-requires : tie.Need-is-at-requires
 is-at-requires c κs = search needs
 
 returns : tie.Need-returns
-returns c = no-i (c .before .before .before .args .file .now) (c .before .before .before .args .lines .now) (sym (c .before .is-at .ensures) ∙ not-true _ (c .if1 .taken))
+returns c = no-i (c .before .before .before .args .table) (c .before .before .before .args .file .now) (c .before .before .before .args .lines .now) (sym (c .before .is-at .ensures) ∙ not-true _ (c .if1 .taken))
 
 is-at-requires-2 : tie.Need-is-at-requires-2
 is-at-requires-2 c κs = search needs
 
 returns-2 : tie.Need-returns-2
-returns-2 c = no-n (c .before .before .before .before .before .args .file .now) (c .before .before .before .before .before .args .lines .now) (sym (c .before .before .before .is-at .ensures) ∙ not-false _ (c .before .before .if1 .left)) (sym (c .before .is-at2 .ensures) ∙ not-true _ (c .if2 .taken))
+returns-2 c = no-n (c .before .before .before .before .before .args .table) (c .before .before .before .before .before .args .file .now) (c .before .before .before .before .before .args .lines .now) (sym (c .before .before .before .is-at .ensures) ∙ not-false _ (c .before .before .if1 .left)) (sym (c .before .is-at2 .ensures) ∙ not-true _ (c .if2 .taken))
 
 is-at-requires-3 : tie.Need-is-at-requires-3
 is-at-requires-3 c κs = search needs
 
 returns-3 : tie.Need-returns-3
-returns-3 c = no-end (c .before .before .before .before .before .before .before .args .file .now) (c .before .before .before .before .before .before .before .args .lines .now) (sym (c .before .before .before .before .before .is-at .ensures) ∙ not-false _ (c .before .before .before .before .if1 .left)) (sym (c .before .before .before .is-at2 .ensures) ∙ not-false _ (c .before .before .if2 .left)) (sym (c .before .is-at3 .ensures) ∙ not-true _ (c .if3 .taken))
+returns-3 c = no-end (c .before .before .before .before .before .before .before .args .table) (c .before .before .before .before .before .before .before .args .file .now) (c .before .before .before .before .before .before .before .args .lines .now) (sym (c .before .before .before .before .before .is-at .ensures) ∙ not-false _ (c .before .before .before .before .if1 .left)) (sym (c .before .before .before .is-at2 .ensures) ∙ not-false _ (c .before .before .if2 .left)) (sym (c .before .is-at3 .ensures) ∙ not-true _ (c .if3 .taken))
 
 read-all-requires : tie.Need-read-all-requires
-read-all-requires c κs = three-in (c .before .before .before .before .before .before .before .before .args .file .now) (c .before .before .before .before .before .before .before .before .args .lines .now) (sym (c .before .before .before .before .before .before .is-at .ensures) ∙ not-false _ (c .before .before .before .before .before .if1 .left)) (sym (c .before .before .before .before .is-at2 .ensures) ∙ not-false _ (c .before .before .before .if2 .left)) (sym (c .before .before .is-at3 .ensures) ∙ not-false _ (c .before .if3 .left))
+read-all-requires c κs = three-in (c .before .before .before .before .before .before .before .before .args .table) (c .before .before .before .before .before .before .before .before .args .file .now) (c .before .before .before .before .before .before .before .before .args .lines .now) (sym (c .before .before .before .before .before .before .is-at .ensures) ∙ not-false _ (c .before .before .before .before .before .if1 .left)) (sym (c .before .before .before .before .is-at2 .ensures) ∙ not-false _ (c .before .before .before .if2 .left)) (sym (c .before .before .is-at3 .ensures) ∙ not-false _ (c .before .if3 .left))
 
 same-length : tie.Need-same-length
 same-length c = search needs
 
 returns-4 : tie.Need-returns-4
-returns-4 c = c .before .read-all .ensures ∙ all-in (c .before .before .before .before .before .before .before .before .before .before .args .file .now) (c .before .before .before .before .before .before .before .before .before .before .args .lines .now) (sym (c .before .before .before .before .before .before .before .before .is-at .ensures) ∙ not-false _ (c .before .before .before .before .before .before .before .if1 .left)) (sym (c .before .before .before .before .before .before .is-at2 .ensures) ∙ not-false _ (c .before .before .before .before .before .if2 .left)) (sym (c .before .before .before .before .is-at3 .ensures) ∙ not-false _ (c .before .before .before .if3 .left))
+returns-4 c = c .before .read-all .ensures ∙ all-in (c .before .before .before .before .before .before .before .before .before .before .args .table) (c .before .before .before .before .before .before .before .before .before .before .args .file .now) (c .before .before .before .before .before .before .before .before .before .before .args .lines .now) (sym (c .before .before .before .before .before .before .before .before .is-at .ensures) ∙ not-false _ (c .before .before .before .before .before .before .before .if1 .left)) (sym (c .before .before .before .before .before .before .is-at2 .ensures) ∙ not-false _ (c .before .before .before .before .before .if2 .left)) (sym (c .before .before .before .before .is-at3 .ensures) ∙ not-false _ (c .before .before .before .if3 .left))
 
 pub read-spec : {M : Type 1} → statement M
 read-spec =

@@ -18,13 +18,13 @@ enum-told : tie.Need-enum-told
 enum-told c = search needs
 
 returns : tie.Need-returns
-returns c = rw (within-back (c .before .before .before .before .before .args .x) (c .before .before .before .before .before .pre .1), within-back _ (number-ends (c .before .before .before .before .before .args .file .now) (c .before .before .before .before .before .args .start) 59 (c .before .before .before .read-number .result) (c .before .before .before .read-number .ensures) _ _ (c .before .y .given .1) .2)) (y-at (c .before .before .before .before .before .args .file .now) (c .before .before .before .before .before .args .start) (c .before .before .before .before .before .args .x) (c .before .before .before .read-number .result) (c .before .before .before .read-number .ensures) _ _ (c .before .y .given .1))
+returns c = rw (within-back (c .before .before .before .before .before .args .table) (c .before .before .before .before .before .args .x) (c .before .before .before .before .before .pre .1), within-back (c .before .before .before .before .before .args .table) _ (number-ends (c .before .before .before .before .before .args .table) (c .before .before .before .before .before .args .file .now) (c .before .before .before .before .before .args .start) 59 (c .before .before .before .read-number .result) (c .before .before .before .read-number .ensures) _ _ (c .before .y .given .1) .2)) (y-at (c .before .before .before .before .before .args .table) (c .before .before .before .before .before .args .file .now) (c .before .before .before .before .before .args .start) (c .before .before .before .before .before .args .x) (c .before .before .before .read-number .result) (c .before .before .before .read-number .ensures) _ _ (c .before .y .given .1))
 
 returns-2 : tie.Need-returns-2
-returns-2 c = y-wrong (c .before .before .before .before .before .args .file .now) (c .before .before .before .before .before .args .start) (c .before .before .before .before .before .args .x) (c .before .before .before .read-number .result) (c .before .before .before .read-number .ensures) _ (c .before .at .given .1)
+returns-2 c = y-wrong (c .before .before .before .before .before .args .table) (c .before .before .before .before .before .args .file .now) (c .before .before .before .before .before .args .start) (c .before .before .before .before .before .args .x) (c .before .before .before .read-number .result) (c .before .before .before .read-number .ensures) _ (c .before .at .given .1)
 
 returns-3 : tie.Need-returns-3
-returns-3 c = y-beyond (c .before .before .before .before .args .file .now) (c .before .before .before .before .args .start) (c .before .before .before .before .args .x) (c .before .before .read-number .result) (c .before .before .read-number .ensures) (c .enum-told .given .1)
+returns-3 c = y-beyond (c .before .before .before .before .args .table) (c .before .before .before .before .args .file .now) (c .before .before .before .before .args .start) (c .before .before .before .before .args .x) (c .before .before .read-number .result) (c .before .before .read-number .ensures) (c .enum-told .given .1)
 
 pub read-y-spec : {M : Type 1} → statement M
 read-y-spec =
