@@ -1,2 +1,3 @@
 // Mending a list of line records: what is appended, and what is said of each path. See specs/Mend.antt and specs/Report.antt.
 pub mod near;
+pub mod cases;
