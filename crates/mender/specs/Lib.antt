@@ -6,3 +6,6 @@ pub mod MendLaws
 pub mod Sought
 pub mod Finding
 pub mod CaseLaws
+pub mod Judge
+pub mod Report
+pub mod ReportLaws
