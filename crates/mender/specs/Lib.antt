@@ -9,3 +9,5 @@ pub mod CaseLaws
 pub mod Judge
 pub mod Report
 pub mod ReportLaws
+pub mod LineLaws
+pub mod Passes
