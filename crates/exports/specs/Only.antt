@@ -15,7 +15,11 @@ use Rattle.exports.specs.Call.{reported, reportedOf}
 use Rattle.exports.specs.Scan.{scanned, scannedOf}
 use Rattle.checker.specs.Verdict.{toldOf}
 use Rattle.checker.specs.Only.{check-only}
+use Rattle.mender.specs.Report.{Lent, toldOf as mendTold}
+use Rattle.mender.specs.Only.{mend-only}
+use Rattle.mender.specs.declared.list.Outcome.{Outcome}
 use Rattle.checker.specs.declared.Verdict.{Verdict}
+use Rattle.exports.specs.Mend.{MendedBy}
 use Rattle.exports.specs.Check.{twoOf, Checked}
 
 pub hinth-flatten-only : (layout : Layout) (scene prefixes : List ℕ) (ps : List PathBox) (ws os : List ℕ)
@@ -62,3 +66,14 @@ hinth-check-only list os r s p q =
     let number = p .returned ∙ ap (λ (v : Verdict). toldOf v .number) v ∙ sym (q .returned) in
     let out = p .written ∙ ap (λ (v : Verdict). twoOf (toldOf v .verdict) (toldOf v .«record») os) v ∙ sym (q .written) in
     λ i. (number i, out i)
+
+-- `put_two` is public for the two that call it
+pub put-two-only : (first second : ℕ) (os : List ℕ) → Only (λ (r : List ℕ). r ≡ twoOf first second os)
+put-two-only first second os = determined (twoOf first second os)
+
+pub hinth-mend-only : (list : List ℕ) (within : ℕ) (before : Lent) (os : List ℕ) → Only (λ (r : ℕ × (Lent × List ℕ)). MendedBy list within before os (r .0) (r .1 .0) (r .1 .1))
+hinth-mend-only list within before os r s p q =
+    let e = mend-only list within before (p .outcome, r .1 .0) (q .outcome, s .1 .0) (p .mends) (q .mends) in
+    let number = p .returned ∙ ap (λ (o : Outcome × Lent). mendTold (o .0) .number) e ∙ sym (q .returned) in
+    let out = p .written ∙ ap (λ (o : Outcome × Lent). twoOf (mendTold (o .0) .first) (mendTold (o .0) .second) os) e ∙ sym (q .written) in
+    λ i. (number i, (e i .1, out i))

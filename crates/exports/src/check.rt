@@ -4,7 +4,7 @@ ghost use Rattle.exports.specs.Check.{twoOf, Checked};
 use checker::check;
 
 // Nothing is written where there is no room for both.
-fn put_two(out: &mut [u64], first: u64, second: u64)
+pub fn put_two(out: &mut [u64], first: u64, second: u64)
     ensures { λ _. ⌜ now (out .exit) ≡ twoOf first second (now (out .entry)) ⌝ }
 {
     if 1 < out.len() {

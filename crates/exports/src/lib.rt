@@ -1,5 +1,5 @@
-// The C interface: each function is one of `maths`, `scene`, `flatten` or `checker` under a name that C and Rust
-// can link. See include/hinthevoun.h.
+// The C interface: each function is one of `maths`, `scene`, `flatten`, `checker` or `mender` under a name that C
+// and Rust can link. See include/hinthevoun.h.
 ghost use mathlib.Core.Path.{_≡_};
 ghost use Rattle.maths.specs.Numbers.{halfOf};
 ghost use Rattle.maths.specs.Roots.{sqrtOf, hypotOf, cbrtOf, twoThirdsOf};
@@ -7,6 +7,7 @@ ghost use Rattle.maths.specs.Trig.{sinOf, cosOf, atan2Of, asinOf, acosOf};
 
 pub mod call;
 pub mod check;
+pub mod mending;
 pub mod scan;
 
 #[no_mangle]

@@ -11,3 +11,4 @@ pub mod Report
 pub mod ReportLaws
 pub mod LineLaws
 pub mod Passes
+pub mod Only
