@@ -23,8 +23,10 @@
 
 mod check;
 mod ffi;
+mod mend;
 
 pub use check::{CheckRefusal, Verdict, check};
+pub use mend::{Mend, MendRefusal, PathCase, mend, report_of};
 
 /// Where in a scene its parts begin, in words, and how many workgroups of 256 tags to take.
 #[derive(Clone, Copy, Debug, PartialEq, Eq)]

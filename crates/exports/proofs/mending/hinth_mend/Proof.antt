@@ -1,48 +1,33 @@
+-- `exports::mending::hinth_mend` meets its contract. Assumes nothing.
+use Prim.Native.Nat.{ℕ}
+use mathlib.Core.Path.{_≡_, ap, _∙_}
+use mathlib.Core.List.{List}
 use borrow.Author.Needs.{needs}
+use Rattle.mender.specs.Report.{Lent, Mends, toldOf}
+use Rattle.mender.specs.declared.list.Outcome.{Outcome}
+use Rattle.mender.specs.declared.list.Told.{Told}
+use Rattle.exports.specs.Check.{twoOf}
+use Rattle.exports.specs.Mend.{MendedBy}
 use Rattle.exports.proofs.mending.hinth_mend.Statement.{statement}
 use Rattle.exports.proofs.mending.hinth_mend.Tie as tie
-use Rattle.exports.proofs.mending.hinth_mend.Reads as reads
-use Rattle.exports.proofs.mending.hinth_mend.Lts as lts
-use Rattle.exports.proofs.check.put_two.Reads as put-two-reads
-use Rattle.mender.proofs.list.Outcome.told.Reads as told-reads
-use Rattle.mender.proofs.list.mend.Reads as mend-reads
 
--- src/mending.rt:18:16
-mend-requires : tie.Need-mend-requires
-mend-requires c κs = search needs
+mended : {list : List ℕ} {within : ℕ} {before after : Lent} {os os' : List ℕ} (o : Outcome) (t : Told) → Mends list within before o after → t ≡ toldOf o → os' ≡ twoOf (t .first) (t .second) os
+    → MendedBy list within before os (t .number) after os'
+mended {os = os} o t m e w =
+    record {
+      outcome = o;
+      mends = m;
+      returned = ap (λ (t : Told). t .number) e;
+      written = w ∙ ap (λ (t : Told). twoOf (t .first) (t .second) os) e;
+    }
 
--- src/mending.rt:18:9
-told-requires : tie.Need-told-requires
-told-requires c κs = search needs
-
--- src/mending.rt:19:5
-put-two-requires : tie.Need-put-two-requires
-put-two-requires c κs = search needs
-
--- src/mending.rt:7:1
-same-length : tie.Need-same-length
-same-length c = search needs
-
--- src/mending.rt:7:1
-same-length-2 : tie.Need-same-length-2
-same-length-2 c = search needs
-
--- src/mending.rt:7:1
-same-length-3 : tie.Need-same-length-3
-same-length-3 c = search needs
-
--- src/mending.rt:7:1
 returns : tie.Need-returns
-returns c = ?
+returns c =
+    let t = c .before .before .before .before in
+    let m = t .before .before .before .before .before in
+    mended (m .mend .result) (t .told .result) (m .mend .ensures) (t .told .ensures) (c .before .before .put-two .ensures)
 
 pub hinth-mend-spec : {M : Type 1} → statement M
 hinth-mend-spec =
     tie.close
-    (tie.spec
-    mend-requires
-    told-requires
-    put-two-requires
-    same-length
-    same-length-2
-    same-length-3
-    returns)
+    (tie.spec (λ c κs. search needs) (λ c κs. search needs) (λ c κs. search needs) (λ c. search needs) (λ c. search needs) (λ c. search needs) returns)
