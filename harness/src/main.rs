@@ -7,6 +7,7 @@ mod exact;
 mod ffi;
 mod half;
 mod interface;
+mod mender;
 mod random;
 mod report;
 mod roots;
@@ -60,6 +61,7 @@ fn checks(extent: Extent, only: &str) -> ExitCode {
     trig::run(&mut report, extent);
     angles::run(&mut report, extent);
     checker::run(&mut report, extent);
+    mender::run(&mut report, extent);
     match report.close() {
         true => ExitCode::SUCCESS,
         false => ExitCode::FAILURE,

@@ -4,6 +4,7 @@ The functions are those of include/hinthevoun.h, one for one:
 
     scan, flatten                                   from tags, points, transforms and styles to lines and boxes
     check                                           whether a list of lines is sound
+    mend                                            the lines that a list lacks, and a report
     sqrt, hypot, cbrt, two_thirds, half,
     sin, cos, atan2, asin, acos                     the mathematics, each answer an f32
 
@@ -22,8 +23,10 @@ from .calls import EMPTY_BOX, Layout, empty_boxes, flatten, scan
 from .checking import NotChecked, Verdict, check
 from .errors import NoLibrary, Wrong
 from .maths import acos, asin, atan2, cbrt, cos, half, hypot, sin, sqrt, two_thirds
+from .mending import Mended, NotMendable, PathCase, mend, report_of
 from .refusals import Refusal
 
 __version__ = "0.1.0"
-__all__ = ["EMPTY_BOX", "Layout", "NoLibrary", "NotChecked", "Refusal", "Verdict", "Wrong", "acos", "asin", "atan2", "cbrt",
-           "check", "cos", "empty_boxes", "flatten", "half", "hypot", "scan", "sin", "sqrt", "two_thirds"]
+__all__ = ["EMPTY_BOX", "Layout", "Mended", "NoLibrary", "NotChecked", "NotMendable", "PathCase", "Refusal", "Verdict", "Wrong",
+           "acos", "asin", "atan2", "cbrt", "check", "cos", "empty_boxes", "flatten", "half", "hypot", "mend", "report_of", "scan",
+           "sin", "sqrt", "two_thirds"]

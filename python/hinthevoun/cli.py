@@ -17,6 +17,7 @@ COMMANDS = {
     "compare": "a page that lays two folders of drawings over each other, worst first",
     "info": "what a sheet holds",
     "check": "whether a list of lines is sound, of this shop or another",
+    "mend": "a list whose paths each lack at most one line in, the mended list out",
 }
 
 HELP = f"""usage: hinth COMMAND ...
@@ -33,6 +34,7 @@ Examples:
   hinth compare old/ new/ -o report.html                all drawings of two folders, worst first
   hinth info samples/socket.sheet                       tags, subpaths, styles, transforms, size
   hinth check socket.lines                              no bad number, every point a start as often as an end
+  hinth mend old.lines --within 2 -o new.lines          close gaps of at most 2 units, and say which
 
 A sheet or a list is text, as docs/FLATLIST.md explains, or packed little-endian words; - is standard input or output.
 The exit status is 0 if it is done, 1 if something was refused, 2 for bad input or wrong usage. `hinth COMMAND --help` says

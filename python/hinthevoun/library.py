@@ -26,6 +26,7 @@ _CALLS: Dict[str, List[Any]] = {
     "hinth_scan": [*_LENT, _WORD, *_LENT, *_LENT],
     "hinth_flatten": [*[_WORD] * 5, *_LENT, *_LENT, *_LENT, *_LENT, *_LENT],
     "hinth_check": [*_LENT, *_LENT],
+    "hinth_mend": [*_LENT, _WORD, *_LENT, *_LENT, *_LENT],
 }
 _MATHS: Dict[str, List[Any]] = {
     **{name: [_FLOAT] for name in ("sqrt", "cbrt", "two_thirds", "sin", "cos", "asin", "acos")},
