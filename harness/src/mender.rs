@@ -205,7 +205,7 @@ fn about(random: &mut Random, from: f32, far: f64) -> u32 {
 
 /// One line, from a float to one that is about the tolerance away: subnormal and huge ones among them.
 fn differences(extent: Extent) -> Tally {
-    sweep::blocks(extent.scaled(100), |block, tally| {
+    sweep::blocks(extent.scaled(300), |block, tally| {
         let mut random = Random::seeded(block);
         for _ in 0..1000 {
             let within = tolerance(&mut random);
@@ -225,7 +225,7 @@ fn differences(extent: Extent) -> Tally {
 }
 
 fn random_lists(extent: Extent) -> Tally {
-    sweep::blocks(extent.scaled(25), |block, tally| {
+    sweep::blocks(extent.scaled(60), |block, tally| {
         let mut random = Random::seeded(block);
         for _ in 0..1000 {
             let mut records = Vec::new();

@@ -40,7 +40,7 @@ def scan(scene: Words, tag_base: int, prefixes: Buffer) -> int:
     out = (ctypes.c_uint64 * 1)()
     with ExitStack() as stack:
         lent = lent_lists(stack, {"scene": scene}, {"prefixes": prefixes})
-        number = load().hinth_scan(*words_of_span(lent[0]), _word("tag_base", tag_base), *words_of_span(lent[1]), out, len(out))
+        number = load().hinth_scan(*words_of_span(lent[0]), word_for("tag_base", tag_base), *words_of_span(lent[1]), out, len(out))
     if number:
         raise Refusal(number, 0, out[0])
     return out[0]
@@ -63,14 +63,14 @@ def flatten(n_wg: int, tag_base: int, data_base: int, transform_base: int, style
         lent = lent_lists(stack, {"scene": scene, "prefixes": prefixes}, {"boxes": boxes, "lines": lines})
         room = [*words_of_span(lent[0]), *words_of_span(lent[1]), lent[2].address, lent[2].size // 4 // WORDS_OF_A_BOX,
                 *words_of_span(lent[3])]
-        number = load().hinth_flatten(*[_word(name, word) for name, word in numbers], *room, out, len(out))
+        number = load().hinth_flatten(*[word_for(name, word) for name, word in numbers], *room, out, len(out))
     tag, count, end = out
     if number:
         raise Refusal(number, tag, count, end)
     return count
 
 
-def _word(name: str, value: int) -> int:
+def word_for(name: str, value: int) -> int:
     """The number, if it is one of 32 bits: ctypes would cut it off."""
     if not 0 <= value < 2**32:
         raise ValueError(f"{name} is {value}, which is no word of 32 bits")

@@ -5,7 +5,7 @@ from contextlib import ExitStack
 from typing import Dict, List, NamedTuple, Tuple
 
 from .buffers import Buffer, Words
-from .calls import WORDS_OF_A_LINE, lent_lists, words_of_span
+from .calls import WORDS_OF_A_LINE, lent_lists, word_for, words_of_span
 from .library import load
 
 SOUND, MENDED, NOT_MENDED = 0, 1, 2
@@ -60,13 +60,11 @@ def mend(lines: Words, within: int, room: Buffer, report: Buffer) -> Mended:
 
     Raises NotMendable where the library refuses, which changes nothing.
     """
-    if not 0 <= within < 2**32:
-        raise OverflowError(f"within: {within} is not a whole number of 32 bits")
     out = (ctypes.c_uint64 * 2)()
     with ExitStack() as stack:
         read, *written = lent_lists(stack, {"lines": lines}, {"room": room, "report": report})
         places = [part for span in written for part in words_of_span(span)]
-        number = load().hinth_mend(*words_of_span(read), within, *places, out, len(out))
+        number = load().hinth_mend(*words_of_span(read), word_for("within", within), *places, out, len(out))
     if number:
         raise NotMendable(number, *out)
     return Mended(*out)
