@@ -1,5 +1,5 @@
 -- Halving three numbers at once keeps whether one is below the sum of the others. Assumes nothing.
-use Prim.Native.Nat.{ℕ, zero, suc, _+_, _-_, _*_, _/_, _%_, _^_, _≤_, _<_}
+use Prim.Native.Nat.{ℕ, zero, suc, _+_, _-_, _*_, _^_, _≤_, _<_}
 use mathlib.Core.Path.{_≡_, refl, ap, _∙_}
 use mathlib.Core.Bool.{Bool, true, false, not, _&&_}
 use native.Mathlib.Omega.{arith}
@@ -7,7 +7,7 @@ use lib.Dec.{leb, ltb}
 use native.Mathlib.Nat.{pow-suc}
 use borrow.Author.Tests.{ltb-true, ltb-false, leb-true, leb-false}
 use Rattle.mender.specs.declared.near.Scaled.{Scaled}
-use Rattle.mender.specs.Scaled.{valueOf, halved, halfOf, leftOver, lowOf, carryOf}
+use Rattle.mender.specs.Scaled.{valueOf, halved, halfOf, leftOver, carryOf}
 
 -- ---- one number
 

@@ -1,14 +1,14 @@
 -- What the loops over the paths lean on. Assumes nothing.
-use Prim.Native.Nat.{ℕ, _+_, _-_, _*_, _/_, _≤_, _<_}
-use mathlib.Core.Path.{_≡_, refl, sym, ap, _∙_}
-use mathlib.Core.List.{List, [], _++_}
+use Prim.Native.Nat.{ℕ, _+_, _*_, _≤_, _<_}
+use mathlib.Core.Path.{_≡_, refl, ap, _∙_}
+use mathlib.Core.List.{List}
 use native.Mathlib.Numerals.{add-one}
 use native.Mathlib.Omega.{arith}
 use lib.ListN.{length}
 use lib.Seq.{sets, length-sets}
 use Rattle.records.specs.Record.{count}
 use Rattle.mender.specs.declared.list.Plan.{Plan}
-use Rattle.mender.specs.Report.{saidAt, appendedAt, reportTo, linesTo, reportOf, linesOf, Counted, Lent, lent, writtenTo, written}
+use Rattle.mender.specs.Report.{saidAt, appendedAt, reportTo, linesTo, reportOf, linesOf, Counted, lent, writtenTo, written}
 use Rattle.mender.specs.ReportLaws.{said-short, line-short, report-more, lines-more, report-up, lines-up, sets-behind}
 
 -- the paths and lines of the first k of n records

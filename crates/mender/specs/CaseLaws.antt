@@ -6,16 +6,16 @@ use mathlib.Core.Bool.{Bool, true, false, not, _&&_, _||_, true≢false}
 use mathlib.Core.List.{List}
 use native.Mathlib.Omega.{arith}
 use lib.Dec.{eqb}
-use borrow.Author.Tests.{eqb-true, eq-eqb, not-true, not-false}
+use borrow.Author.Tests.{eqb-true, eq-eqb, not-false}
 use Rattle.records.specs.Record.{count, pathOf, starts, ends}
 use Rattle.checker.specs.Verdict.{keyAt}
-use Rattle.checker.specs.Laws.{Found, counted}
+use Rattle.checker.specs.Laws.{counted}
 use Rattle.mender.specs.Near.{isNear}
 use Rattle.mender.specs.Mend.{BalancedIn, Gap, Mendable, IsCase}
 use Rattle.mender.specs.MendLaws.{one-over, one-under, end-found, start-found}
 use Rattle.mender.specs.Finding.{Allowed, gap-by-records}
 use Rattle.mender.specs.Sought.{allowedPoint, isSought, soughtAt}
-use Rattle.mender.specs.declared.cases.Case.the-variants.{Sound, Mended, NotMended}
+use Rattle.mender.specs.declared.cases.Case.the-variants.{Mended, NotMended}
 use Rattle.mender.specs.declared.cases.Sought.{Sought}
 use Rattle.mender.specs.declared.cases.Sought.the-variants.{Uneven, OpenEnd, OpenStart, Other}
 
@@ -35,7 +35,7 @@ not-both true true e f h = true≢false (sym h)
 not-both true false e f h = true≢false (sym f)
 not-both false b e f h = true≢false (sym e)
 
-or-last : (a : Bool) → a || true ≡ true
+pub or-last : (a : Bool) → a || true ≡ true
 or-last true = refl
 or-last false = refl
 

@@ -8,7 +8,7 @@ use native.Mathlib.Omega.{arith}
 use lib.Dec.{ltb}
 use borrow.Author.Tests.{ltb-true, ltb-false}
 use Rattle.laws.specs.Only.{Only}
-use Rattle.records.specs.Record.{count, starts, ends}
+use Rattle.records.specs.Record.{count}
 use Rattle.checker.specs.Search.{Stop}
 use Rattle.checker.specs.Verdict.{keyAt}
 use Rattle.mender.specs.Near.{isNear}

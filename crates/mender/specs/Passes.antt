@@ -1,16 +1,16 @@
 -- What becomes of each path, and so of the list: with no path left unmended it passes the check, and mending it again appends nothing. Assumes nothing.
-use Prim.Native.Nat.{ℕ, zero, suc, _+_, _%_, _≤_, _<_}
+use Prim.Native.Nat.{ℕ, zero, suc, _%_, _≤_, _<_}
 use mathlib.Core.Path.{_≡_, refl, sym, ap, _∙_, subst}
-use mathlib.Core.Logic.{_⊎_, inl, inr}
+use mathlib.Core.Logic.{inl, inr}
 use mathlib.Core.Bool.{Bool, true, false, _&&_, _||_, true≢false}
 use mathlib.Core.List.{List, [], _++_, append-nil, append-assoc}
 use native.Mathlib.Omega.{arith}
 use lib.Dec.{eqb}
 use lib.ListN.{length}
-use borrow.Author.Tests.{eqb-true, eqb-false, eq-eqb}
+use borrow.Author.Tests.{eqb-true, eqb-false}
 use Rattle.records.specs.Record.{count, pathOf, starts, ends}
-use Rattle.checker.specs.Verdict.{Finite, Taken, Answers}
-use Rattle.checker.specs.Laws.{Found, counted}
+use Rattle.checker.specs.Verdict.{Finite, Answers}
+use Rattle.checker.specs.Laws.{counted}
 use Rattle.checker.specs.declared.Verdict.the-variants.{Sound as Passed}
 use Rattle.mender.specs.Mend.{BalancedIn, Gap, Mendable, lineOf, IsCase}
 use Rattle.mender.specs.MendLaws.{mended-path, others-kept, end-found, balanced-no-gap}

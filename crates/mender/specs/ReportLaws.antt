@@ -11,6 +11,7 @@ use lib.Seq.{sets}
 use borrow.Author.Tests.{ltb-true, ltb-false, eq-eqb, ne-eqb}
 use Rattle.records.specs.Record.{count, pathOf}
 use Rattle.mender.specs.Mend.{IsCase}
+use Rattle.mender.specs.CaseLaws.{or-last}
 use Rattle.mender.specs.Judge.{case-only, judge}
 use Rattle.mender.specs.Report.{caseOf, saidOf, appendedOf, seenIn, unless, saidAt, appendedAt, reportTo, linesTo}
 use Rattle.mender.specs.declared.cases.Case.{Case}
@@ -30,10 +31,6 @@ is-case-of ws t p {r} h = case-only ws t p r (caseOf ws t p) h (case-is ws t p)
 pub seen-later : (ws : List ℕ) (p k : ℕ) → (pathOf ws k ≡ p → ⊥) → seenIn ws p k ≡ false → seenIn ws p (k + 1) ≡ false
 unfolding seenIn
 seen-later ws p k h e = rw (add-one k, ne-eqb _ _ h, e)
-
-or-last : (a : Bool) → a || true ≡ true
-or-last true = refl
-or-last false = refl
 
 pub seen-there : (ws : List ℕ) (p j k : ℕ) → j < k → pathOf ws j ≡ p → seenIn ws p k ≡ true
 unfolding seenIn

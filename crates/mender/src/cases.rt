@@ -1,9 +1,9 @@
 // Which case a path is: sound, mended with a line, or not mended. See specs/Mend.antt.
+use crate::near::near;
 use records::Counts;
 use records::count_both;
 use records::key_at;
 use records::word_at;
-use crate::near::near;
 ghost use mathlib.Core.Path.{_≡_};
 ghost use lib.Dec.{eqb};
 ghost use Prim.Native.Nat.{_+_};

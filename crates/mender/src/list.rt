@@ -1,9 +1,9 @@
 // Mending a list: one pass looks and decides, a second one writes and cannot fail. See specs/Report.antt.
+use crate::cases::Case;
+use crate::cases::case_of;
 use checker::Verdict;
 use checker::check;
 use records::word_at;
-use crate::cases::Case;
-use crate::cases::case_of;
 ghost use mathlib.Core.Path.{_≡_};
 ghost use Prim.Native.Nat.{ℕ, _+_, _*_, _<_, _≤_};
 ghost use lib.ListN.{length};
@@ -190,7 +190,14 @@ fn append(room: &mut [u32], at: usize, path: u32, case: Case)
 }
 
 // Writes what is said of record k behind the paths and lines before it, and counts on.
-fn write_at(list: &[u32], tolerance: u32, k: usize, before: Plan, room: &mut [u32], report: &mut [u32]) -> Plan
+fn write_at(
+    list: &[u32],
+    tolerance: u32,
+    k: usize,
+    before: Plan,
+    room: &mut [u32],
+    report: &mut [u32],
+) -> Plan
     requires { ⌜ (before .lines * 6 + length (appendedAt (now list) tolerance k) ≤ length (now room)) × (before .paths * 6 + length (saidAt (now list) tolerance k) ≤ length (now report)) ⌝ }
     ensures { λ r. ⌜ (now (room .exit) ≡ sets (now (room .entry)) (before .lines * 6) (appendedAt (now (list .entry)) tolerance k))
         × (now (report .exit) ≡ sets (now (report .entry)) (before .paths * 6) (saidAt (now (list .entry)) tolerance k))

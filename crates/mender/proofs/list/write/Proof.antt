@@ -1,7 +1,6 @@
 -- `mender::list::write` meets its contract. Assumes nothing.
 use Prim.Native.Nat.{_-_}
 use native.Mathlib.Omega.{arith}
-use borrow.Author.Needs.{needs}
 use Rattle.mender.proofs.Plans.{Wrote, none-wrote, same-room, same-report, wrote-room, wrote-more, all-wrote}
 use Rattle.mender.proofs.list.write.Statement.{statement}
 use Rattle.mender.proofs.list.write.Tie as tie

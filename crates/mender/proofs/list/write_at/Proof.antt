@@ -1,13 +1,13 @@
 -- `mender::list::write_at` meets its contract. Assumes nothing.
 use Prim.Native.Nat.{ℕ, _+_, _*_, _≤_, _<_}
-use mathlib.Core.Path.{_≡_, refl, sym, ap, _∙_}
+use mathlib.Core.Path.{_≡_, sym, ap, _∙_}
 use mathlib.Core.List.{List, []}
 use native.Mathlib.Omega.{arith}
 use denote.Ref.{now}
 use lib.ListN.{length}
 use lib.Seq.{sets}
 use borrow.Author.Needs.{needs}
-use Rattle.mender.specs.Report.{saidOf, appendedOf, saidAt, appendedAt}
+use Rattle.mender.specs.Report.{saidOf}
 use Rattle.mender.specs.ReportLaws.{nothing-at, new-at, said-six}
 use Rattle.mender.specs.declared.cases.Case.{Case}
 use Rattle.mender.proofs.list.write_at.Statement.{statement}

@@ -1,6 +1,5 @@
 -- `mender::near::below` meets its contract. Assumes nothing.
 use Prim.Native.Nat.{_+_}
-use mathlib.Core.Path.{_≡_, sym, subst}
 use borrow.Author.Needs.{needs}
 use native.Mathlib.Omega.{arith}
 use Rattle.mender.proofs.Halves.{size, shrinks, Halving, begun, halve, carry-room, halved-out}

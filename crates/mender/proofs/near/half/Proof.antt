@@ -1,6 +1,6 @@
 -- `mender::near::half` meets its contract. Assumes nothing.
 use Prim.Native.Nat.{ℕ, zero, suc, _-_, _/_}
-use mathlib.Core.Path.{_≡_, refl, sym, ap}
+use mathlib.Core.Path.{_≡_, refl}
 use native.Mathlib.Omega.{arith}
 use borrow.Author.Needs.{needs}
 use Rattle.mender.specs.declared.near.Scaled.{Scaled}

@@ -1,11 +1,10 @@
 -- `mender::near::near` meets its contract. Assumes nothing.
-use Prim.Native.Nat.{ℕ, _+_, _-_, _<_, _≤_}
+use Prim.Native.Nat.{ℕ, _<_, _≤_}
 use mathlib.Core.Path.{_≡_}
-use mathlib.Core.Bool.{Bool, true, false}
+use mathlib.Core.Bool.{true, false}
 use borrow.Author.Needs.{needs}
 use borrow.Author.Tests.{le-leb, lt-leb}
-use lib.Dec.{leb}
-use Rattle.mender.specs.Near.{steps, minus, unitsOf, apart, isNear}
+use Rattle.mender.specs.Near.{minus, unitsOf, apart, isNear}
 use Rattle.mender.proofs.near.near.Statement.{statement}
 use Rattle.mender.proofs.near.near.Tie as tie
 
