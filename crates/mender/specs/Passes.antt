@@ -15,8 +15,9 @@ use Rattle.checker.specs.declared.Verdict.the-variants.{Sound as Passed}
 use Rattle.mender.specs.Mend.{BalancedIn, Gap, Mendable, lineOf, IsCase}
 use Rattle.mender.specs.MendLaws.{mended-path, others-kept, end-found, balanced-no-gap}
 use Rattle.mender.specs.LineLaws.{line-whole, line-finite}
-use Rattle.mender.specs.Report.{caseOf, appendedOf, seenIn, unless, appendedAt, linesTo, linesOf}
+use Rattle.mender.specs.Report.{caseOf, appendedOf, seenIn, unless, appendedAt, linesTo, linesOf, Lent, Mends}
 use Rattle.mender.specs.ReportLaws.{case-is, is-case-of, seen-there}
+use Rattle.mender.specs.declared.list.Outcome.the-variants.{Done}
 use Rattle.mender.specs.declared.cases.Case.{Case}
 use Rattle.mender.specs.declared.cases.Case.the-variants.{Sound, Mended, NotMended}
 
@@ -255,3 +256,8 @@ module _ (ws : List ℕ) (t : ℕ) where
 pub again-nothing : (ws : List ℕ) (t : ℕ) → length ws % 6 ≡ 0 → Finite ws → linesOf (ws ++ linesOf ws t) t ≡ []
 unfolding out
 again-nothing ws t h f = no-lines (ws ++ linesOf ws t) t _ (λ k l. not-mended (ws ++ linesOf ws t) t _ (none-again ws t h f _))
+
+-- what `mend` is done with, and no path left unmended, passes the check
+pub mended-passes : (ws : List ℕ) (t : ℕ) (before after : Lent) (paths lines : ℕ) → Mends ws t before (Done paths lines) after → NoneLeft ws t → Answers (ws ++ linesOf ws t) Passed
+unfolding Mends
+mended-passes ws t before after paths lines a h = passes ws t (a .0 .whole) (a .1) (a .2 .few) h
