@@ -286,6 +286,31 @@ uint32_t hinth_cubic(uint64_t *pen, size_t pen_len, float x1, float y1, float x2
 uint32_t hinth_end(uint64_t *pen, size_t pen_len, uint8_t *tags, size_t tags_len, uint32_t *points,
                    size_t points_len);
 
+/*
+ * Mends a list whose paths each lack at most one line, and says what was done. The list is only read; the lines are
+ * appended in `room`, which may stand right behind the list in memory, so that both together are the mended list.
+ *
+ * Within one path number, where exactly one point is an end once more than a start, exactly one is a start once more than an
+ * end, no other is out of balance, and the two differ by at most `within` units in x and in y, exactly, a line is appended
+ * from the first to the second: its path, 0xffffffff in place of a tag, and the points, zeros as +0. Otherwise nothing.
+ * Paths come in order of first appearance. The report has six words a path: the path; 0 sound, 1 mended or 2 not mended; and
+ * the four words of the appended line's points, or zeros. Words behind the lines and behind the report are not touched. With
+ * no path left unmended the list passes hinth_check; mending it again with the same number appends nothing.
+ *
+ * The result is 0, or the number of the refusal, the first that holds; a refusal changes nothing of room and report:
+ *
+ *   50  the list has more than 2,000 whole records
+ *   51  its number of words is not a multiple of six
+ *   52  a coordinate is a NaN or an infinity
+ *   53  no room for the appended lines or for the report, or more than 2,000 records afterwards
+ *
+ * out[0] is the number of paths reported and out[1] of lines appended, at refusal 53 those that there would be; at refusal 52
+ * out[0] is the first bad record, counted from 0; else both are 0. If out_len is under 2 neither is written. Nothing else of
+ * out is ever written.
+ */
+uint32_t hinth_mend(const uint32_t *list, size_t list_words, uint32_t within, uint32_t *room, size_t room_words,
+                    uint32_t *report, size_t report_words, uint64_t *out, size_t out_len);
+
 #ifdef __cplusplus
 }
 #endif

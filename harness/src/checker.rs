@@ -10,14 +10,14 @@ use hinthevoun::{CheckRefusal, Layout, PathBox, Verdict, check, flatten, scan};
 use std::collections::BTreeMap;
 use std::hint::black_box;
 
-type Record = [u32; 6];
+pub type Record = [u32; 6];
 type Said = Result<Verdict, CheckRefusal>;
 
 const SOUND: Said = Ok(Verdict::Sound);
 const TOO_MANY: Said = Err(CheckRefusal::TooMany);
 
 /// The number with -0 as +0, by its bits.
-fn number(word: u32) -> u32 {
+pub fn number(word: u32) -> u32 {
     (f32::from_bits(word) + 0.0).to_bits()
 }
 
@@ -64,7 +64,7 @@ pub fn run(report: &mut Report, extent: Extent) {
 }
 
 /// A closed outline through these points.
-fn outline(path: u32, corners: &[[u32; 2]]) -> Vec<Record> {
+pub fn outline(path: u32, corners: &[[u32; 2]]) -> Vec<Record> {
     (0..corners.len())
         .map(|i| {
             let ([x0, y0], [x1, y1]) = (corners[i], corners[(i + 1) % corners.len()]);
@@ -73,7 +73,7 @@ fn outline(path: u32, corners: &[[u32; 2]]) -> Vec<Record> {
         .collect()
 }
 
-const MINUS_ZERO: u32 = 1 << 31;
+pub const MINUS_ZERO: u32 = 1 << 31;
 
 fn worked() -> Tally {
     let mut tally = Tally::default();
@@ -151,12 +151,12 @@ fn coordinate(random: &mut Random) -> u32 {
     }
 }
 
-fn corners(random: &mut Random) -> Vec<[u32; 2]> {
+pub fn corners(random: &mut Random) -> Vec<[u32; 2]> {
     (0..1 + random.below(8)).map(|_| [coordinate(random), coordinate(random)]).collect()
 }
 
 /// What may have happened to a list on its way.
-fn spoil(random: &mut Random, records: &mut Vec<Record>) {
+pub fn spoil(random: &mut Random, records: &mut Vec<Record>) {
     if records.is_empty() {
         return;
     }

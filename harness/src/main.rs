@@ -8,6 +8,7 @@ mod exact;
 mod ffi;
 mod half;
 mod interface;
+mod mender;
 mod pattern;
 mod random;
 mod report;
@@ -67,6 +68,7 @@ fn checks(extent: Extent, only: &str) -> ExitCode {
     sheets::run(&mut report, extent);
     pattern::run(&mut report, extent);
     cuts::run(&mut report, extent);
+    mender::run(&mut report, extent);
     match report.close() {
         true => ExitCode::SUCCESS,
         false => ExitCode::FAILURE,

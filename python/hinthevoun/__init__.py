@@ -6,6 +6,7 @@ The functions are those of include/hinthevoun.h, one for one:
     check                                           whether a list of lines is sound
     to_f32, to_i16                                  tags and points of an old sheet moved to f32 points, and back
     cut, read_cut                                   a path's lines as HP-GL, and such a file back as lines
+    mend                                            the lines that a list lacks, and a report
     sqrt, hypot, cbrt, two_thirds, half,
     sin, cos, atan2, asin, acos                     the mathematics, each answer an f32
     move, line, quad, cubic, end                    drawing fills: from commands to tags and points, with a Pen
@@ -29,12 +30,13 @@ from .cutting import NotCut, Table, cut, read_cut
 from .drawing import Sheet
 from .errors import NoLibrary, Wrong
 from .maths import acos, asin, atan2, cbrt, cos, half, hypot, sin, sqrt, two_thirds
+from .mending import Mended, NotMendable, PathCase, mend, report_of
 from .moving import Moved, NotMoved, to_f32, to_i16
 from .pattern import NotDrawn, Pen, cubic, end, line, move, quad
 from .refusals import Refusal
 
 __version__ = "0.1.0"
-__all__ = ["EMPTY_BOX", "Layout", "Moved", "NoLibrary", "NotChecked", "NotCut", "NotDrawn", "NotMoved", "Pen",
-           "Refusal", "Sheet", "Table", "Verdict", "Wrong", "acos", "asin", "atan2", "cbrt", "check", "cos", "cubic",
-           "cut", "empty_boxes", "end", "flatten", "half", "hypot", "line", "move", "quad", "read_cut", "scan", "sin",
-           "sqrt", "to_f32", "to_i16", "two_thirds"]
+__all__ = ["EMPTY_BOX", "Layout", "Mended", "Moved", "NoLibrary", "NotChecked", "NotCut", "NotDrawn", "NotMendable",
+           "NotMoved", "PathCase", "Pen", "Refusal", "Sheet", "Table", "Verdict", "Wrong", "acos", "asin", "atan2",
+           "cbrt", "check", "cos", "cubic", "cut", "empty_boxes", "end", "flatten", "half", "hypot", "line", "mend",
+           "move", "quad", "read_cut", "report_of", "scan", "sin", "sqrt", "to_f32", "to_i16", "two_thirds"]

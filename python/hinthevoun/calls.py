@@ -39,8 +39,8 @@ def scan(scene: Words, tag_base: int, prefixes: Buffer) -> int:
     """
     out = (ctypes.c_uint64 * 1)()
     with ExitStack() as stack:
-        lent = _lent(stack, {"scene": scene}, {"prefixes": prefixes})
-        number = load().hinth_scan(*_words(lent[0]), _word("tag_base", tag_base), *_words(lent[1]), out, len(out))
+        lent = lent_lists(stack, {"scene": scene}, {"prefixes": prefixes})
+        number = load().hinth_scan(*words_of_span(lent[0]), word_for("tag_base", tag_base), *words_of_span(lent[1]), out, len(out))
     if number:
         raise Refusal(number, 0, out[0])
     return out[0]
@@ -60,24 +60,24 @@ def flatten(n_wg: int, tag_base: int, data_base: int, transform_base: int, style
     numbers = zip(Layout._fields, (n_wg, tag_base, data_base, transform_base, style_base))
     out = (ctypes.c_uint64 * 3)()
     with ExitStack() as stack:
-        lent = _lent(stack, {"scene": scene, "prefixes": prefixes}, {"boxes": boxes, "lines": lines})
-        room = [*_words(lent[0]), *_words(lent[1]), lent[2].address, lent[2].size // 4 // WORDS_OF_A_BOX,
-                *_words(lent[3])]
-        number = load().hinth_flatten(*[_word(name, word) for name, word in numbers], *room, out, len(out))
+        lent = lent_lists(stack, {"scene": scene, "prefixes": prefixes}, {"boxes": boxes, "lines": lines})
+        room = [*words_of_span(lent[0]), *words_of_span(lent[1]), lent[2].address, lent[2].size // 4 // WORDS_OF_A_BOX,
+                *words_of_span(lent[3])]
+        number = load().hinth_flatten(*[word_for(name, word) for name, word in numbers], *room, out, len(out))
     tag, count, end = out
     if number:
         raise Refusal(number, tag, count, end)
     return count
 
 
-def _word(name: str, value: int) -> int:
+def word_for(name: str, value: int) -> int:
     """The number, if it is one of 32 bits: ctypes would cut it off."""
     if not 0 <= value < 2**32:
         raise ValueError(f"{name} is {value}, which is no word of 32 bits")
     return value
 
 
-def _lent(stack: ExitStack, read: dict, written: dict) -> List[Span]:
+def lent_lists(stack: ExitStack, read: dict, written: dict) -> List[Span]:
     """The memory of the lists, in their order. None that is written may overlap another."""
     spans = {name: stack.enter_context(Lent(name, words, False)) for name, words in read.items()}
     for name, words in written.items():
@@ -89,5 +89,5 @@ def _lent(stack: ExitStack, read: dict, written: dict) -> List[Span]:
     return list(spans.values())
 
 
-def _words(span: Span) -> List[int]:
+def words_of_span(span: Span) -> List[int]:
     return [span.address, span.size // 4]

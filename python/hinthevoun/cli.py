@@ -19,6 +19,7 @@ COMMANDS = {
     "check": "whether a list of lines is sound, of this shop or another",
     "convert": "a sheet of i16 points moved to f32 points, or back",
     "cut": "the lines of one path as HP-GL, for the knife table",
+    "mend": "a list whose paths each lack at most one line in, the mended list out",
 }
 
 HELP = f"""usage: hinth COMMAND ...
@@ -37,6 +38,7 @@ Examples:
   hinth check socket.lines                              no bad number, every point a start as often as an end
   hinth convert --to f32 old.sheet -o new.sheet         an old sheet moved to f32 points, with the same lines
   hinth cut socket.lines --path 0 -o brim.hpgl          a path as HP-GL; `hinth draw` draws such files too
+  hinth mend old.lines --within 2 -o new.lines          close gaps of at most 2 units, and say which
 
 A sheet or a list is text, as docs/FLATLIST.md explains, or packed little-endian words; - is standard input or output.
 The exit status is 0 if it is done, 1 if something was refused, 2 for bad input or wrong usage. `hinth COMMAND --help` says

@@ -31,6 +31,7 @@ _CALLS: Dict[str, List[Any]] = {
        for name, floats in (("move", 2), ("line", 2), ("quad", 4), ("cubic", 6), ("end", 0))},
     "hinth_cut": [*_LENT, _WORD, *_LENT, *_LENT],
     "hinth_read_cut": [*_LENT, _WORD, *_LENT, *_LENT],
+    "hinth_mend": [*_LENT, _WORD, *_LENT, *_LENT, *_LENT],
 }
 _MATHS: Dict[str, List[Any]] = {
     **{name: [_FLOAT] for name in ("sqrt", "cbrt", "two_thirds", "sin", "cos", "asin", "acos")},

@@ -298,3 +298,37 @@ pub fn pen_cubic(pen: &mut [u64], p: [[f32; 2]; 3], tags: &mut [u8], points: &mu
 pub fn pen_end(pen: &mut [u64], tags: &mut [u8], points: &mut [u32]) -> u32 {
     command!(hinth_end, pen, [], tags, points)
 }
+
+unsafe extern "C" {
+    fn hinth_mend(
+        list: *const u32,
+        list_words: usize,
+        within: u32,
+        room: *mut u32,
+        room_words: usize,
+        report: *mut u32,
+        report_words: usize,
+        out: *mut u64,
+        out_len: usize,
+    ) -> u32;
+}
+
+/// The refusal's number or 0, and the two numbers that the answer names.
+pub fn mend(list: &[u32], within: u32, room: &mut [u32], report: &mut [u32]) -> (u32, [u64; 2]) {
+    let mut out = [0; 2];
+    // SAFETY: as in `scan`.
+    let number = unsafe {
+        hinth_mend(
+            list.as_ptr(),
+            list.len(),
+            within,
+            room.as_mut_ptr(),
+            room.len(),
+            report.as_mut_ptr(),
+            report.len(),
+            out.as_mut_ptr(),
+            out.len(),
+        )
+    };
+    (number, out)
+}

@@ -21,7 +21,11 @@ use Rattle.exports.specs.Scan.{scanned, scannedOf}
 use Rattle.exports.specs.Cut.{tableOf, written, writtenOf, linesRead, linesReadOf}
 use Rattle.checker.specs.Verdict.{toldOf}
 use Rattle.checker.specs.Only.{check-only}
+use Rattle.mender.specs.Report.{Lent as MendLent, toldOf as mendTold}
+use Rattle.mender.specs.Only.{mend-only}
+use Rattle.mender.specs.declared.list.Outcome.{Outcome}
 use Rattle.checker.specs.declared.Verdict.{Verdict}
+use Rattle.exports.specs.Mend.{MendedBy}
 use Rattle.exports.specs.Check.{twoOf, Checked}
 use Rattle.sheets.specs.Moving.{toF32, toI16}
 use Rattle.sheets.specs.Written.{stored}
@@ -114,3 +118,10 @@ hinth-cut-only path ws bs os r s p q = let e = p ∙ sym q in λ i. (e i .number
 pub hinth-read-cut-only : (table : ℕ) (file : List ℕ) (zs : List ℤ) (os : List ℕ)
     → Only (λ (r : ℕ × (List ℤ × List ℕ)). linesRead (r .0) (r .1 .0) (r .1 .1) ≡ linesReadOf (readingOf (tableOf table) file zs) os)
 hinth-read-cut-only table file zs os r s p q = let e = p ∙ sym q in λ i. (e i .number, (e i .numbers, e i .out))
+
+pub hinth-mend-only : (list : List ℕ) (within : ℕ) (before : MendLent) (os : List ℕ) → Only (λ (r : ℕ × (MendLent × List ℕ)). MendedBy list within before os (r .0) (r .1 .0) (r .1 .1))
+hinth-mend-only list within before os r s p q =
+    let e = mend-only list within before (p .outcome, r .1 .0) (q .outcome, s .1 .0) (p .mends) (q .mends) in
+    let number = p .returned ∙ ap (λ (o : Outcome × MendLent). mendTold (o .0) .number) e ∙ sym (q .returned) in
+    let out = p .written ∙ ap (λ (o : Outcome × MendLent). twoOf (mendTold (o .0) .first) (mendTold (o .0) .second) os) e ∙ sym (q .written) in
+    λ i. (number i, (e i .1, out i))

@@ -36,6 +36,7 @@ Tags        Point at a line to read its path and its tag: the segment that drew 
             sheet, as a refusal counts them. It stands on line 7 + tag base + T/4 of the sheet (docs/FLATLIST.md), and
             `hinth info` tells the tag base. With --tag T, tag T's lines are drawn strong and all others pale, and how
             many it drew is said. Lists of an older version do not tell tags: flatten the sheet again.
+Mended      Lines that `hinth mend` appended, whose second word is ffffffff, are violet and wide, and counted in the legend.
 Red rings   An open point: among the lines of its path it is not a start as often as an end. Points are compared by
             their bits, as in docs/WATERTIGHT.md, so +0 and -0 are two. Point at a ring to read it. Of two lists, the
             first has the larger rings. Closed fills have none; a stroke can have some where rounding leaves a last

@@ -5,6 +5,7 @@ from typing import Callable, Iterable, Iterator, List, NamedTuple, Optional, Seq
 from xml.sax.saxutils import escape
 
 from ..columns import Lines, finite_points, place_of, places_of
+from ..mending import APPENDED
 from ..saying import count
 from . import ink
 from .counting import Found, Outline, boxes_shown, chains_of, kinds_of, runs_of, shared_and_alone
@@ -18,6 +19,8 @@ INK, GREY, RED = "#222222", "#555555", "#d00000"
 # For each of two lists: colour and width of a line that both have, and of one that only this list has.
 SHARED = [("#b5daf0", 6), ("#d97f26", 1.5)]
 ALONE = [("#0072b2", 6), ("#b85c00", 3)]
+# A line that was appended when the list was mended.
+MENDED_COLOUR, MENDED_WIDTH = "#8a2be2", 4
 # Of more open points each is a dot without words, so that the picture can still be opened.
 MOST_RINGS = 10_000
 # Lines in one element: viewers take very long for one with many more, and for very many elements.
@@ -161,8 +164,20 @@ def with_tag_strong(layers: List[Layer], tag: int) -> List[Layer]:
     return others + chosen
 
 
+def with_appended_apart(layers: List[Layer]) -> List[Layer]:
+    """Lines that no tag drew but the mending of the list, in their own colour over all others."""
+    others, appended = [], []
+    for layer in layers:
+        drawn = layer.lines.drawn_by(APPENDED)
+        others.append(layer._replace(lines=layer.lines.without(drawn)))
+        if drawn:
+            appended.append(layer._replace(lines=layer.lines.at(drawn), colour=MENDED_COLOUR, width=MENDED_WIDTH,
+                                           strong=(MENDED_COLOUR, STRONG)))
+    return others + appended
+
+
 def layers_drawn(layers: List[Layer], frame: Frame, wishes: Wishes) -> List[str]:
-    layers = [layer._replace(lines=layer.lines.drawable()) for layer in layers]
+    layers = with_appended_apart([layer._replace(lines=layer.lines.drawable()) for layer in layers])
     if wishes.tag is not None:
         layers = with_tag_strong(layers, wishes.tag)
     by_tag = are_few_tags(layers, wishes.most_tags)

@@ -3,12 +3,12 @@ import math
 from typing import Callable, List, NamedTuple, Optional, Tuple
 
 from .counting import Found, Outline
-from .drawing import (ALONE, GREY, INK, RED, SHARED, STRONG, Wishes, frame_of, inked, one_drawn, pair, pale,
+from .drawing import (ALONE, GREY, INK, MENDED_COLOUR, MENDED_WIDTH, RED, SHARED, STRONG, Wishes, frame_of, inked, one_drawn, pair, pale,
                       path_colour, rectangle, text, two_drawn, way)
 from .geometry import Frame, round_length
 from .ink import is_inked, rule_of
-from .telling import (about_boxes, about_left, about_lines, about_outline, about_tag, lacks_of, notes_of, shown,
-                      told_and_left)
+from .telling import (about_appended, about_boxes, about_left, about_lines, about_outline, about_tag, lacks_of, notes_of,
+                      shown, told_and_left)
 
 MARGIN, ROW, SWATCH = 30, 20, 34
 LONGEST_BAR = 200
@@ -67,14 +67,21 @@ def tag_rows(found: Found, wishes: Wishes, mark_of: Callable[[int], str], before
     return [Row(words, weight="bold", mark=mark_of(found.lines.paths[drawn[0]]) if drawn else "")]
 
 
+def appended_rows(found: Found, before: str = "") -> List[Row]:
+    """What the colour of appended lines means, where there are any."""
+    return [Row(before + words, mark=sample((MENDED_COLOUR, MENDED_WIDTH))) for words in about_appended(found)]
+
+
 def one_rows(found: Found, wishes: Wishes) -> List[Row]:
     return (outline_rows(found, wishes, lambda path: sample((path_colour(path), 2)))
+            + appended_rows(found)
             + tag_rows(found, wishes, lambda path: sample((path_colour(path), STRONG))))
 
 
 def two_rows(first: Found, second: Found, wishes: Wishes) -> List[Row]:
     rows = outline_rows(first, wishes, lambda _: sample(ALONE[0]), "first, ")
     rows += outline_rows(second, wishes, lambda _: sample(ALONE[1]), "second, ")
+    rows += appended_rows(first, "first, ") + appended_rows(second, "second, ")
     rows += tag_rows(first, wishes, lambda _: sample(ALONE[0]), "first, ")
     rows += tag_rows(second, wishes, lambda _: sample(ALONE[1]), "second, ")
     marks = sample(*SHARED), sample(ALONE[0]), sample(ALONE[1])

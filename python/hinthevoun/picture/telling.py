@@ -4,6 +4,7 @@ from typing import Collection, List, Optional, Sequence, Tuple
 
 from ..columns import finite_points, place_of
 from ..cutting import Table, reach_of
+from ..mending import APPENDED
 from ..saying import count
 from .counting import Found, Outline, shared_and_alone
 from .geometry import greatest_gap
@@ -25,7 +26,9 @@ def spanned(thing: str, numbers: Sequence[int]) -> str:
 
 
 def about_drawers(paths: Sequence[int], tags: Sequence[int]) -> str:
-    """Whose lines these are. A tag of 0 is one that the list does not tell."""
+    """Whose lines these are. A tag of 0 is one that the list does not tell, and appended lines have none."""
+    if set(tags) == {APPENDED}:
+        return f"{spanned('path', paths)}, appended when the list was mended"
     return f"{spanned('path', paths)}, {spanned('tag', tags) if any(tags) else 'tag not told'}"
 
 
@@ -45,6 +48,12 @@ def about_gaps(points: Collection[int]) -> str:
         which = "the others each" if far else "each"
         words += f", {which} within about {greatest_gap(map(place_of, finite)):.3g} of another"
     return words
+
+
+def about_appended(found: Found) -> List[str]:
+    """That the list was mended, if it was."""
+    appended = found.lines.tags.count(APPENDED)
+    return [f"{count(appended, 'line')} appended when the list was mended"] if appended else []
 
 
 def about_outline(outline: Outline) -> str:
@@ -108,6 +117,6 @@ def about_boxes(first: Found, second: Found) -> str:
 def sentences_of(lists: List[Found], tag: Optional[int]) -> List[str]:
     """All that is said of one list or two, where one tag may be asked for."""
     said = [f"{found.name}: {sentence}" for found in lists
-            for sentence in [*about_outlines(found.outlines), *([] if tag is None else [about_tag(found, tag)]),
+            for sentence in [*about_outlines(found.outlines), *about_appended(found), *([] if tag is None else [about_tag(found, tag)]),
                              *lacks_of(found), *notes_of(found)]]
     return said + [", ".join(about_lines(*lists)), about_boxes(*lists)] if len(lists) == 2 else said

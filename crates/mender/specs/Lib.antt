@@ -1,0 +1,14 @@
+pub mod Near
+pub mod Scaled
+pub mod UnitsLaws
+pub mod Mend
+pub mod MendLaws
+pub mod Sought
+pub mod Finding
+pub mod CaseLaws
+pub mod Judge
+pub mod Report
+pub mod ReportLaws
+pub mod LineLaws
+pub mod Passes
+pub mod Only
