@@ -62,8 +62,9 @@ def _moved(name: str, tags: bytes, points: Words, words_of_a_point: int) -> Move
     new_tags, new_points = bytearray(len(tags)), array("I", [0]) * (4 * words_of_a_point * len(tags))
     out = (ctypes.c_uint64 * 3)()
     with ExitStack() as stack:
-        read, words = stack.enter_context(Lent("tags", tags, False, 1)), stack.enter_context(Lent("points", points, False))
-        kept, moved = stack.enter_context(Lent("new_tags", new_tags, True, 1)), stack.enter_context(Lent("new_points", new_points, True))
+        lent = Lent("tags", tags, False, 1), Lent("points", points, False), Lent("new_tags", new_tags, True, 1), \
+            Lent("new_points", new_points, True)
+        read, words, kept, moved = map(stack.enter_context, lent)
         number = getattr(load(), name)(read.address, read.size, words.address, words.size // 4, kept.address, kept.size,
                                        moved.address, moved.size // 4, out, len(out))
     if number:

@@ -110,7 +110,8 @@ class Command(unittest.TestCase):
     @in_folder
     def test_the_old_table_refuses_what_the_new_one_takes(self, folder):
         place = folder / "cut.hpgl"
-        rows = [record(1, 0, 0, 9, 9), record(0, 0, 0, 8, 8), record(1, 1e6, 0, 0, 0), record(0, 8, 8, 8, 32767.5), record(0, 1e6, 0, 0, 0)]
+        rows = [record(1, 0, 0, 9, 9), record(0, 0, 0, 8, 8), record(1, 1e6, 0, 0, 0), record(0, 8, 8, 8, 32767.5),
+                record(0, 1e6, 0, 0, 0)]
         result = hinth("cut", "-", "--path", 0, "--table", "old", "-o", place, data=listed(rows).encode())
         same((result.status, place.exists()), (1, False))
         holds(result.said, "standard input: refused 32 at record 3, counted from 0 (line 5): a coordinate is, rounded, outside "

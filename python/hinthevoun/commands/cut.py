@@ -72,7 +72,8 @@ def file_of(records: Records, path: int, table: Table) -> Tuple[bytes, str]:
     try:
         file = hpgl_of(records.words, path)
     except NotCut as why:
-        return b"", about_refusal(records, why.number, why.place, f"a coordinate is no number or, rounded, outside {reach_of(Table.NEW)}")
+        told = f"a coordinate is no number or, rounded, outside {reach_of(Table.NEW)}"
+        return b"", about_refusal(records, why.number, why.place, told)
     position = outside(file, table)
     if position is None:
         return file, ""

@@ -43,7 +43,8 @@ Red rings   An open point: among the lines of its path it is not a start as ofte
             bit between its parts, so how near open points lie to each other is said too.
 Cuts        An HP-GL file is drawn in plotter units, its lines as those of path 0; moves with the pen up are dashed. Which
             knife table takes the file is said, the old one or only the new one, and a line that the old one does not take
-            is edged in red. Laid over its drawing, a line is the same as one of the list only where that one has whole coordinates, in path 0.
+            is edged in red. Laid over its drawing, a line is the same as one of the list only where that one has whole
+            coordinates, in path 0.
 Red notes   What the picture lacks: a refused list is drawn up to where it stopped, and a line with an infinite
             coordinate cannot be drawn, nor its path's box and ink.
 Scale bar   Under the drawing, in units, or in millimetres with --mm SIZE, the millimetres that a unit has.

@@ -4,8 +4,8 @@ import struct
 from ..cli import DONE, REFUSED, Parser
 from ..errors import Wrong
 from ..files import name_of, same, target
-from ..opening import load
 from ..mending import MENDED, NOT_MENDED, NotMendable, PathCase, mended_of
+from ..opening import load
 from ..progress import Progress
 from ..records import read_records, with_lines
 from ..saying import say

@@ -3,8 +3,8 @@ import math
 from typing import Callable, List, NamedTuple, Optional, Tuple
 
 from .counting import Found, Outline
-from .drawing import (ALONE, GREY, INK, MENDED_COLOUR, MENDED_WIDTH, RED, SHARED, STRONG, Wishes, frame_of, inked, one_drawn, pair, pale,
-                      path_colour, rectangle, text, two_drawn, way)
+from .drawing import (ALONE, GREY, INK, MENDED_COLOUR, MENDED_WIDTH, RED, SHARED, STRONG, Wishes, frame_of, inked,
+                      one_drawn, pair, pale, path_colour, rectangle, text, two_drawn, way)
 from .geometry import Frame, round_length
 from .ink import is_inked, rule_of
 from .telling import (about_appended, about_boxes, about_left, about_lines, about_outline, about_tag, lacks_of, notes_of,

@@ -117,6 +117,6 @@ def about_boxes(first: Found, second: Found) -> str:
 def sentences_of(lists: List[Found], tag: Optional[int]) -> List[str]:
     """All that is said of one list or two, where one tag may be asked for."""
     said = [f"{found.name}: {sentence}" for found in lists
-            for sentence in [*about_outlines(found.outlines), *about_appended(found), *([] if tag is None else [about_tag(found, tag)]),
-                             *lacks_of(found), *notes_of(found)]]
+            for sentence in [*about_outlines(found.outlines), *about_appended(found),
+                             *([] if tag is None else [about_tag(found, tag)]), *lacks_of(found), *notes_of(found)]]
     return said + [", ".join(about_lines(*lists)), about_boxes(*lists)] if len(lists) == 2 else said
