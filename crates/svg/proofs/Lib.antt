@@ -1,0 +1,7 @@
+-- The laws that the proofs share.
+pub mod Rounding
+pub mod Lifting
+pub mod Reading
+pub mod Places
+pub mod Sounds
+pub mod Walks
