@@ -4,4 +4,7 @@ pub mod Lifting
 pub mod Reading
 pub mod Places
 pub mod Sounds
+pub mod Walking
+pub mod Deals
 pub mod Walks
+pub mod Calls

@@ -6,25 +6,24 @@ use Prim.Native.Nat.{ℕ, suc, _+_, _-_, _≤_, _<_}
 use native.Mathlib.Nat.{le-antisymm}
 use native.Mathlib.Numerals.{add-one}
 use native.Mathlib.Omega.{arith}
-use borrow.Author.Tests.{lt-ltb, le-ltb}
-use lib.Dec.{ltb, eqb}
-use lib.ListN.{length, drop, getD, set}
+use lib.Dec.{eqb}
+use lib.ListN.{length, drop, getD}
 use lib.Seq.{drop-cons, drop-length}
+use Rattle.pattern.specs.declared.pen.Pen.{Pen}
 use Rattle.svg.specs.declared.steps.Symbol.{Symbol}
-use Rattle.svg.specs.declared.steps.Symbol.the-variants.{White, Comma, Sign, Dot, Digit, Letter, Close, Other}
-use Rattle.svg.specs.declared.steps.Kind.the-variants.{Move, Line, Quad, Cubic}
-use Rattle.svg.specs.declared.steps.State.{State}
-use Rattle.svg.specs.declared.steps.Turn.{Turn}
-use Rattle.svg.specs.declared.steps.Verdict.{Verdict}
-use Rattle.svg.specs.declared.steps.Verdict.the-variants.{Accepted, Refused}
-use Rattle.svg.specs.declared.steps.Pen.{Pen}
-use Rattle.svg.specs.declared.steps.Done.{Done}
-use Rattle.svg.specs.Language.{pick, symbolOf, markOf, letterOf, digitByte, whiteByte, symbols, next}
-use Rattle.svg.specs.Machine.{Held, Sound, digitOf, last, gapLast, inNumber, numberOf}
-use Rattle.svg.specs.Reader.{Out, out, Final, final, start, ended-with, SoundTurn, turnIn, turnInto, lastIn, lastGoing, lastInto, readInto, decimalWord}
-use Rattle.svg.proofs.Reading.{digit-bounds, pick-yes, pick-no}
-use Rattle.svg.proofs.Sounds.{SoundOut, turn-sound, arity-pos}
+use Rattle.svg.specs.declared.steps.Symbol.the-variants.{White, Digit}
+use Rattle.svg.specs.declared.reader.Done.{Done}
+use Rattle.svg.specs.declared.reader.Walk.{Walk}
+use Rattle.svg.specs.declared.reader.Way.{Way}
+use Rattle.svg.specs.declared.reader.Way.the-variants.{On, Over}
+use Rattle.svg.specs.Language.{pick, symbolOf, markOf, letterOf, digitByte, whiteByte, symbols}
+use Rattle.svg.specs.Machine.{digitOf}
+use Rattle.svg.specs.Import.{Told, told, importOf}
+use Rattle.svg.specs.Walk.{Left, left, oneBy, lastBy, readInto, startOf, Sound}
+use Rattle.svg.proofs.Reading.{digit-bounds}
 use Rattle.svg.proofs.Places.{fresh}
+use Rattle.svg.proofs.Walking.{SoundLeft, one-sound}
+use Rattle.svg.proofs.Deals.{stays, import-is}
 
 -- ---- a symbol's digit is below ten
 
@@ -54,64 +53,61 @@ byte-digit b = byte-way b (digitByte b) refl
 
 -- ---- the loop
 
-pub record Here (text words₀ words : List ℕ) (p : Pen) (i : ℕ) : Type 0 where
+pub record Here (text : List ℕ) (pen₀ : Pen) (tags₀ points₀ tags points : List ℕ) (w : Walk) (i : ℕ) : Type 0 where
   pub within : i ≤ length text
-  pub sound : SoundTurn (p .turn)
-  pub same : length words ≡ length words₀
-  pub rest : readInto i (out p words) (symbols (drop i text)) ≡ readInto 0 (out start words₀) (symbols text)
+  pub sound : Sound w
+  pub same-tags : length tags ≡ length tags₀
+  pub same-points : length points ≡ length points₀
+  pub rest : readInto i (left (On w) tags points) (symbols (drop i text)) ≡ importOf text pen₀ tags₀ points₀
 
-start-sound : SoundTurn (start .turn)
-start-sound = record { group = omega arith; held = fresh false 0 }
-
-pub here-start : (text words : List ℕ) (p : Pen) → p ≡ start → Here text words words p 0
-here-start text words p e =
+pub here-start : (text : List ℕ) (pen : Pen) (tags points : List ℕ) (w : Walk) → w ≡ startOf pen → Here text pen tags points tags points w 0
+here-start text pen tags points w e =
     record {
       within = omega arith;
-      sound = subst (λ (p : Pen). SoundTurn (p .turn)) (sym e) start-sound;
-      same = refl;
-      rest = ap (λ (p : Pen). readInto 0 (out p words) (symbols text)) e;
+      sound = subst (λ (w : Walk). Sound w) (sym e) (record { state = record { group = omega arith; held = fresh false 0 }; hand = omega arith });
+      same-tags = refl;
+      same-points = refl;
+      rest = ap (λ (w : Walk). readInto 0 (left (On w) tags points) (symbols text)) e ∙ import-is text pen tags points;
     }
 
-module _ {text words₀ words : List ℕ} {p : Pen} {i : ℕ} (h : Here text words₀ words p i) where
-  left : (y : Symbol) → y ≡ symbolOf (getD text i 0) → i < length text → symbols (drop i text) ≡ y ∷ symbols (drop (i + 1) text)
+module _ {text : List ℕ} {pen₀ : Pen} {tags₀ points₀ tags points : List ℕ} {w : Walk} {i : ℕ} (h : Here text pen₀ tags₀ points₀ tags points w i) where
+  unread : (y : Symbol) → y ≡ symbolOf (getD text i 0) → i < length text → symbols (drop i text) ≡ y ∷ symbols (drop (i + 1) text)
   unfolding symbols
-  left y e l =
+  unread y e l =
       ap symbols (drop-cons text i 0 l)
       ∙ ap (λ (y : Symbol). y ∷ symbols (drop (suc i) text)) (sym e)
       ∙ ap (λ (j : ℕ). y ∷ symbols (drop j text)) (sym (add-one i))
 
-  pub here-step : (q : Pen) (ws : List ℕ) (y : Symbol) → i < length text → y ≡ symbolOf (getD text i 0) → length ws ≡ length words → out q ws ≡ turnIn words (p .used) (p .turn) i y → Here text words₀ ws q (i + 1)
+  -- the step that was taken, and what is left then
+  read-one : (v : Way) (ts ps : List ℕ) (y : Symbol) → i < length text → y ≡ symbolOf (getD text i 0) → left v ts ps ≡ oneBy w i y tags points
+      → readInto (i + 1) (left v ts ps) (symbols (drop (i + 1) text)) ≡ importOf text pen₀ tags₀ points₀
   unfolding readInto
-  here-step q ws y l e s o =
-      record {
-        within = omega arith;
-        sound = subst (λ (o : Out). SoundOut o) (sym o) (turn-sound words (p .used) (p .turn) i y (h .sound) (subst (λ (y : Symbol). digitOf y ≤ 9) (sym e) (byte-digit (getD text i 0))));
-        same = s ∙ h .same;
-        rest =
-            ap (λ (o : Out). readInto (i + 1) o (symbols (drop (i + 1) text))) o
-            ∙ ap (λ (ys : List Symbol). readInto i (out p words) ys) (sym (left y e l))
-            ∙ h .rest;
-      }
-
-  pub here-end : (r : Done) (ws : List ℕ) → length text ≤ i → final r ws ≡ lastIn words (p .used) (p .turn) i → final r ws ≡ readInto 0 (out start words₀) (symbols text)
-  unfolding readInto symbols
-  here-end r ws l o =
-      o
-      ∙ ap (λ (ys : List Symbol). readInto i (out p words) ys) (sym (ap symbols (ap (λ (j : ℕ). drop j text) (le-antisymm (h .within) l) ∙ drop-length text)))
+  read-one v ts ps y l e o =
+      ap (λ (o : Left). readInto (i + 1) o (symbols (drop (i + 1) text))) o
+      ∙ ap (λ (ys : List Symbol). readInto i (left (On w) tags points) ys) (sym (unread y e l))
       ∙ h .rest
 
--- ---- the end
+  pub here-step : (v : Walk) (q : Way) (ts ps : List ℕ) (y : Symbol) → i < length text → y ≡ symbolOf (getD text i 0) → length ts ≡ length tags → length ps ≡ length points
+      → left q ts ps ≡ oneBy w i y tags points → q ≡ On v → Here text pen₀ tags₀ points₀ ts ps v (i + 1)
+  here-step v q ts ps y l e st sp o f =
+      record {
+        within = omega arith;
+        sound = subst (λ (o : Left). SoundLeft o) (sym o ∙ ap (λ (q : Way). left q ts ps) f) (one-sound w i y tags points (h .sound) (subst (λ (y : Symbol). digitOf y ≤ 9) (sym e) (byte-digit (getD text i 0))));
+        same-tags = st ∙ h .same-tags;
+        same-points = sp ∙ h .same-points;
+        rest = ap (λ (q : Way). readInto (i + 1) (left q ts ps) (symbols (drop (i + 1) text))) (sym f) ∙ read-one q ts ps y l e o;
+      }
 
-module _ (ws : List ℕ) (u i : ℕ) (s : State) where
-  pub last-number : (w n : ℕ) (v : Verdict) → inNumber (s .place) ≡ true → u < length ws → w ≡ decimalWord (numberOf (s .num)) → n ≡ next (s .kind) (s .have) → v ≡ gapLast n i → final (ended-with v (u + 1)) (set ws u w) ≡ lastGoing ws u i s
-  last-number w n v e l p q r =
-      ap (λ (w : ℕ). final (ended-with v (u + 1)) (set ws u w)) p
-      ∙ ap (λ (v : Verdict). final (ended-with v (u + 1)) (set ws u (decimalWord (numberOf (s .num))))) (r ∙ ap (λ (n : ℕ). gapLast n i) q)
-      ∙ sym (pick-yes _ _ _ (lt-ltb u (length ws) l))
-      ∙ sym (pick-yes _ _ _ e)
+  pub here-over : (r : Done) (q : Way) (ts ps : List ℕ) (y : Symbol) → i < length text → y ≡ symbolOf (getD text i 0) → left q ts ps ≡ oneBy w i y tags points → q ≡ Over r
+      → told r ts ps ≡ importOf text pen₀ tags₀ points₀
+  here-over r q ts ps y l e o f =
+      sym (stays (symbols (drop (i + 1) text)) (i + 1) r ts ps)
+      ∙ ap (λ (q : Way). readInto (i + 1) (left q ts ps) (symbols (drop (i + 1) text))) (sym f)
+      ∙ read-one q ts ps y l e o
 
-  pub last-full : inNumber (s .place) ≡ true → length ws ≤ u → final (ended-with (Refused 21 i) u) ws ≡ lastGoing ws u i s
-  last-full e l = sym (pick-no _ _ _ (le-ltb u (length ws) l)) ∙ sym (pick-yes _ _ _ e)
-
-  pub last-plain : (v : Verdict) → inNumber (s .place) ≡ false → v ≡ last (s .place) (s .have) i → final (ended-with v u) ws ≡ lastGoing ws u i s
-  last-plain v e r = ap (λ (v : Verdict). final (ended-with v u) ws) r ∙ sym (pick-no _ _ _ e)
+  pub here-end : (r : Done) (ts ps : List ℕ) → length text ≤ i → told r ts ps ≡ lastBy w i tags points → told r ts ps ≡ importOf text pen₀ tags₀ points₀
+  unfolding readInto symbols
+  here-end r ts ps l o =
+      o
+      ∙ ap (λ (ys : List Symbol). readInto i (left (On w) tags points) ys) (sym (ap symbols (ap (λ (j : ℕ). drop j text) (le-antisymm (h .within) l) ∙ drop-length text)))
+      ∙ h .rest
