@@ -4,6 +4,7 @@ use mathlib.Core.Bool.{true, false}
 use mathlib.Core.List.{List, [], _∷_}
 use Prim.Native.Nat.{ℕ, _+_}
 use lib.Ieee.{binary32, toBits, round}
+use Rattle.pattern.specs.Meaning.{freshPen}
 use Rattle.svg.specs.declared.steps.Fault.the-variants.{NotInLanguage, TooLong}
 use Rattle.svg.specs.Fold.{Going}
 use Rattle.svg.specs.declared.steps.Verdict.{Verdict}
@@ -12,6 +13,18 @@ use Rattle.svg.specs.Language.{symbols}
 use Rattle.svg.specs.Machine.{begun}
 use Rattle.svg.specs.Fold.{verdictFrom}
 use Rattle.svg.specs.Decimal.{decimalOf}
+use Rattle.pattern.specs.Commands.{line, move, end, commandOf, numberOf, mayDraw, named, inked, fits, written, inkOf, placeOf, finishing, startOf, spots, wordsOf, floatsOf}
+use Rattle.pattern.specs.Commands.{draw as line-to}
+use Rattle.pattern.specs.declared.pen.Open.the-variants.{Moved}
+use Rattle.scene.specs.Reading.{allFinite}
+use lib.Ieee.{ofBits}
+use Rattle.svg.specs.declared.steps.Kind.the-variants.{Move, Line}
+use Rattle.svg.specs.declared.reader.Ending.the-variants.{Faulty, Undrawn}
+use Rattle.svg.specs.Language.{dec, draw, closePath}
+use Rattle.svg.specs.Machine.{runs}
+use Rattle.svg.specs.Meaning.{meaning, drawnFrom, allOf}
+use Rattle.svg.specs.Import.{importFrom, importOf}
+use Rattle.svg.specs.Hands.{spot}
 
 abbrev verdict : List ℕ → Verdict
 verdict bs = verdictFrom 0 (Going begun) (symbols bs)
@@ -125,3 +138,20 @@ largest = refl
 least : toBits binary32 (decimalOf false 1 9) ≡ 0x3089705f
 unfolding toBits decimalOf round
 least = refl
+
+-- 'M1 2 3 4ZL5 6': the pair behind M's is a line, and behind Z the line starts at M's point
+behind-z : meaning (draw Move (dec false 1 0 ∷ dec false 2 0 ∷ []) ∷ draw Line (dec false 3 0 ∷ dec false 4 0 ∷ []) ∷ closePath ∷ draw Line (dec false 5 0 ∷ dec false 6 0 ∷ []) ∷ [])
+    ≡ move (spot 0x3f80_0000 0x4000_0000) ∷ line-to (line (spot 0x4040_0000 0x4080_0000)) ∷ end ∷ move (spot 0x3f80_0000 0x4000_0000) ∷ line-to (line (spot 0x40a0_0000 0x40c0_0000)) ∷ end ∷ []
+unfolding meaning drawnFrom toBits decimalOf round
+behind-z = refl
+
+-- 'M0 0L1 2.': M is drawn, and the line is not
+point-last-drawn : importOf (77 ∷ 48 ∷ 32 ∷ 48 ∷ 76 ∷ 49 ∷ 32 ∷ 50 ∷ 46 ∷ []) freshPen [] []
+    ≡ record { ending = Faulty NotInLanguage 9; pen = record { place = record { opened = Moved; first = spot 0 0; last = spot 0 0 }; tags = 0; points = 0 }; tags = []; points = [] }
+unfolding importOf importFrom allOf symbols runs commandOf numberOf mayDraw named inked fits written inkOf placeOf finishing wordsOf floatsOf allFinite toBits ofBits decimalOf round
+point-last-drawn = refl
+
+-- 'M0 0L1 1' with no room for the line: 21 behind its last number, at the length
+no-room : importOf (77 ∷ 48 ∷ 32 ∷ 48 ∷ 76 ∷ 49 ∷ 32 ∷ 49 ∷ []) freshPen [] [] .ending ≡ Undrawn 21 8
+unfolding importOf importFrom allOf symbols runs commandOf numberOf mayDraw named inked fits written inkOf placeOf finishing startOf spots wordsOf floatsOf allFinite toBits ofBits decimalOf round
+no-room = refl

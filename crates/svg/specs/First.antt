@@ -25,7 +25,7 @@ use Rattle.svg.specs.Machine.{num, st, wholeDigit, fractionDigit, firstL
 use Rattle.svg.specs.Fold.{settle, turnOf, closing, run, verdictFrom, Answer, answer}
 use Rattle.svg.specs.Unique.{endOf, verdict-is}
 use Rattle.svg.specs.Exactly.{accepted-is-text}
-use Rattle.svg.specs.GoesOn.{after}
+use Rattle.svg.specs.GoesOn.{after, symbols-append}
 
 -- ---- numbers that fill the group: a space and a 0, n times
 
@@ -194,11 +194,6 @@ through : (ys zs : List Symbol) (i : ℕ) (t : Turn) (s : State) → after i t y
 unfolding after verdictFrom
 through [] zs i t s e f = ap (λ (t : Turn). verdictFrom i t zs) e ∙ f i
 through (y ∷ ys) zs i t s e f = through ys zs (i + 1) (turnOf t i y) s e f
-
-symbols-append : (bs cs : List ℕ) → symbols (bs ++ cs) ≡ symbols bs ++ symbols cs
-unfolding symbols
-symbols-append [] cs = refl
-symbols-append (b ∷ bs) cs = ap (λ (ys : List Symbol). symbolOf b ∷ ys) (symbols-append bs cs)
 
 whole-answer : (a : Answer) → endOf a ≡ Accepted → (is : List Item) × (a ≡ answer is Accepted)
 whole-answer (answer is e) h = (is, ap (answer is) h)

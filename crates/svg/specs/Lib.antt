@@ -11,4 +11,9 @@ pub mod Unique
 pub mod Exactly
 pub mod GoesOn
 pub mod First
+pub mod Said
+pub mod Imports
+pub mod Breaks
+pub mod Long
+pub mod Only
 pub mod Examples

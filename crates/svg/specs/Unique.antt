@@ -195,16 +195,16 @@ endOf (answer is e) = e
 end-says : (x : Item) (a : Answer) → endOf (says x a) ≡ endOf a
 end-says x (answer is e) = refl
 
-stopped : (i : ℕ) (c : Fault) (j : ℕ) (bs : List Symbol) → verdictFrom i (Stopped c j) bs ≡ Refused c j
+pub verdict-stays : (ys : List Symbol) (i : ℕ) (c : Fault) (j : ℕ) → verdictFrom i (Stopped c j) ys ≡ Refused c j
 unfolding verdictFrom
-stopped i c j [] = refl
-stopped i c j (b ∷ bs) = stopped (i + 1) c j bs
+verdict-stays [] i c j = refl
+verdict-stays (y ∷ ys) i c j = verdict-stays ys (i + 1) c j
 
 onward-end : (t : Step) (i : ℕ) (bs : List Symbol) → ((s : State) → endOf (run (i + 1) s bs) ≡ verdictFrom (i + 1) (Going s) bs) → endOf (onward t (λ s. run (i + 1) s bs)) ≡ verdictFrom (i + 1) (settle t) bs
 onward-end (Go s) i bs f = f s
 onward-end (Lettered s) i bs f = end-says (letter (s .kind)) (run (i + 1) s bs) ∙ f s
 onward-end (Shut s) i bs f = end-says close (run (i + 1) s bs) ∙ f s
-onward-end (Bad c j) i bs f = sym (stopped (i + 1) c j bs)
+onward-end (Bad c j) i bs f = sym (verdict-stays bs (i + 1) c j)
 
 pick-end : (e : Bool) (x : Item) (t u : Step) (i : ℕ) (bs : List Symbol) → ((s : State) → endOf (run (i + 1) s bs) ≡ verdictFrom (i + 1) (Going s) bs)
     → endOf (pick e (says x (onward t (λ s. run (i + 1) s bs))) (onward u (λ s. run (i + 1) s bs))) ≡ verdictFrom (i + 1) (pick e (settle t) (settle u)) bs

@@ -107,14 +107,7 @@ fn number_over(w: Walk, i: usize, tags: &mut [u8], points: &mut [u32]) -> Way
 }
 
 // What a step does to the drawing.
-fn act(
-    hand: Hand,
-    pen: Pen,
-    i: usize,
-    y: Step,
-    tags: &mut [u8],
-    points: &mut [u32],
-) -> Way
+fn act(hand: Hand, pen: Pen, i: usize, y: Step, tags: &mut [u8], points: &mut [u32]) -> Way
     ensures { λ r. ⌜ left r (now (tags .exit)) (now (points .exit)) ≡ actBy hand pen i y (now (tags .entry)) (now (points .entry)) ⌝ }
 {
     match y {
