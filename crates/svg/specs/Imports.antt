@@ -9,7 +9,8 @@ use borrow.Author.Tests.{eqb-true, eqb-false, eq-eqb, ne-eqb}
 use lib.Dec.{eqb}
 use lib.ListN.{length}
 use Rattle.pattern.specs.Commands.{Command, end, Outcome, outcome, numberOf}
-use Rattle.pattern.specs.Meaning.{next, after, fresh}
+use Rattle.pattern.specs.Meaning.{next, after, kept}
+use Rattle.pattern.specs.Meaning.{accepted as kept-of}
 use Rattle.pattern.specs.declared.pen.Spot.{Spot}
 use Rattle.pattern.specs.declared.pen.Pen.{Pen}
 use Rattle.pattern.specs.declared.pen.Answer.the-variants.{Accepted as Drawn}
@@ -50,21 +51,30 @@ all-first : (c : Command) (cs : List Command) (o : Outcome) → o .number ≡ 0 
 unfolding allOf
 all-first c cs o z = ap (λ (t : Bool). allOf (pick t (next o c) o) cs) (eq-eqb (o .number) 0 z)
 
-not-refused : (cs : List Command) (o x : Outcome) → allOf o cs .number ≡ 0 → (o .number ≡ 0 → allOf o cs ≡ x) → allOf o cs ≡ x
-not-refused cs o x z f = go (eqb (o .number) 0) refl
+first-drawn : (cs : List Command) (o : Outcome) → allOf o cs .number ≡ 0 → o .number ≡ 0
+first-drawn cs o z = go (eqb (o .number) 0) refl
   where
-    go : (t : Bool) → eqb (o .number) 0 ≡ t → allOf o cs ≡ x
-    go true e = f (eqb-true (o .number) 0 e)
-    go false e = absurd (eqb-false (o .number) 0 e (sym (ap (λ (x : Outcome). x .number) (all-refused cs o e)) ∙ z))
+    go : (t : Bool) → eqb (o .number) 0 ≡ t → o .number ≡ 0
+    go true e = eqb-true (o .number) 0 e
+    go false e = sym (ap (λ (x : Outcome). x .number) (all-refused cs o e)) ∙ z
 
--- where none is refused they are simply one after the other
+-- where none is refused all are accepted
+pub all-kept : (cs : List Command) (o : Outcome) → o .number ≡ 0 → allOf o cs .number ≡ 0 → kept-of o cs ≡ cs
+unfolding allOf kept-of kept
+all-kept [] o z e = refl
+all-kept (c ∷ cs) o z e =
+    let z' = ap (λ (x : Outcome). x .number) (sym (all-first c cs o z)) ∙ e in
+    let n = first-drawn cs (next o c) z' in
+    ap (λ (t : Bool). kept t c (kept-of (next o c) cs)) (eq-eqb (next o c .number) 0 n) ∙ ap (λ (ds : List Command). c ∷ ds) (all-kept cs (next o c) n z')
+
+-- and they are simply one after the other
 pub all-after : (cs : List Command) (o : Outcome) → o .number ≡ 0 → allOf o cs .number ≡ 0 → allOf o cs ≡ after o cs
 unfolding allOf after
 all-after [] o z e = refl
 all-after (c ∷ cs) o z e =
     let f = all-first c cs o z in
     let z' = ap (λ (x : Outcome). x .number) (sym f) ∙ e in
-    f ∙ not-refused cs (next o c) _ z' (λ y. all-after cs (next o c) y z')
+    f ∙ all-after cs (next o c) (first-drawn cs (next o c) z') z'
 
 -- ---- what an import leaves
 
@@ -183,6 +193,7 @@ module _ (pen : Pen) (tags points : List ℕ) where
   pub record Imported (bs : List ℕ) : Type 0 where
     pub commands : List Svg
     pub means : Means bs commands
+    pub none-refused : allOf given (meaning commands) .number ≡ 0
     pub drawn : importOf bs pen tags points ≡ stop Accepted (after given (meaning commands))
 
   -- What is accepted is a text of the language, and what is drawn is its meaning.
@@ -193,4 +204,4 @@ module _ (pen : Pen) (tags points : List ℕ) where
       let m : Means bs (commandsAt Move [] is) =
       record { items = is; text = accepted-is-text bs is (run-is (symbols bs) 0 begun ∙ ap (answer is) (w .1)); commands = refl } in
       let z = whole _ _ _ (text-stands bs (commandsAt Move [] is) m .ends) e in
-      record { commands = commandsAt Move [] is; means = m; drawn = text-accepted bs (commandsAt Move [] is) m (z .0) }
+      record { commands = commandsAt Move [] is; means = m; none-refused = z .0; drawn = text-accepted bs (commandsAt Move [] is) m (z .0) }
