@@ -131,32 +131,6 @@ fn act(hand: Hand, pen: Pen, i: usize, y: Step, tags: &mut [u8], points: &mut [u
     }
 }
 
-fn step(w: Walk, i: usize, y: Symbol, tags: &mut [u8], points: &mut [u32]) -> Way
-    requires { ⌜ Sound w × (digitOf y ≤ 9) ⌝ }
-    ensures { λ r. ⌜ left r (now (tags .exit)) (now (points .exit)) ≡ stepBy w i y (now (tags .entry)) (now (points .entry)) ⌝ }
-{
-    let state = w.state;
-    let hand = w.hand;
-    let pen = w.pen;
-    act(hand, pen, i, step_at(state, i, y), tags, points)
-}
-
-// One symbol; a number that it ends is dealt with first.
-fn one(w: Walk, i: usize, y: Symbol, tags: &mut [u8], points: &mut [u32]) -> Way
-    requires { ⌜ Sound w × (digitOf y ≤ 9) ⌝ }
-    ensures { λ r. ⌜ left r (now (tags .exit)) (now (points .exit)) ≡ oneBy w i y (now (tags .entry)) (now (points .entry)) ⌝ }
-{
-    let state = w.state;
-    let p = state.place;
-    if number_ended(p, y) {
-        return match number_over(w, i, tags, points) {
-            Way::On(v) => step(v, i, y, tags, points),
-            Way::Over(r) => Way::Over(r),
-        };
-    }
-    step(w, i, y, tags, points)
-}
-
 // The last command was read: the end of the text is an end.
 fn finish_pen(pen: Pen, i: usize, tags: &mut [u8], points: &mut [u32]) -> Done
     ensures { λ r. ⌜ told r (now (tags .exit)) (now (points .exit)) ≡ endedBy pen i (now (tags .entry)) (now (points .entry)) ⌝ }
@@ -244,14 +218,33 @@ fn begin(pen: Pen) -> Walk
     }
 }
 
-// Draws a text behind what the pen has drawn.
+// Draws a text behind what the pen has drawn. A byte that ends a number is looked at again, behind the number; most bytes change
+// the state alone.
 pub fn read(text: &[u8], pen: Pen, tags: &mut [u8], points: &mut [u32]) -> Done
     ensures { λ r. ⌜ told r (now (tags .exit)) (now (points .exit)) ≡ importOf (now (text .entry)) pen (now (tags .entry)) (now (points .entry)) ⌝ }
 {
     let mut w = begin(pen);
     let mut i: usize = 0;
     while i < text.len() {
-        match one(w, i, symbol_at(text[i]), tags, points) {
+        let y = symbol_at(text[i]);
+        let state = w.state;
+        let place = state.place;
+        if number_ended(place, y) {
+            match number_over(w, i, tags, points) {
+                Way::On(v) => w = v,
+                Way::Over(r) => return r,
+            }
+            continue;
+        }
+        let taken = step_at(state, i, y);
+        if let Step::Go(s) = taken {
+            w.state = s;
+            i += 1;
+            continue;
+        }
+        let hand = w.hand;
+        let held = w.pen;
+        match act(hand, held, i, taken, tags, points) {
             Way::On(v) => w = v,
             Way::Over(r) => return r,
         }
