@@ -1,5 +1,5 @@
 -- What the calls of a function come to together. Assumes nothing.
-use mathlib.Core.Path.{_≡_, refl, sym, ap, _∙_, subst}
+use mathlib.Core.Path.{_≡_, sym, ap, _∙_}
 use mathlib.Core.Bool.{Bool, true, false}
 use mathlib.Core.List.{List, [], _∷_}
 use Prim.Native.Nat.{ℕ, _+_}
@@ -11,7 +11,6 @@ use Rattle.pattern.specs.Meaning.{next}
 use Rattle.pattern.specs.declared.pen.Pen.{Pen}
 use Rattle.pattern.specs.declared.pen.Drew.{Drew}
 use Rattle.pattern.specs.declared.pen.Answer.the-variants.{Accepted as Drawn}
-use Rattle.svg.specs.declared.steps.Symbol.{Symbol}
 use Rattle.svg.specs.declared.steps.State.{State}
 use Rattle.svg.specs.declared.hand.Hand.{Hand}
 use Rattle.svg.specs.declared.reader.Ending.the-variants.{Accepted, Undrawn}
@@ -20,13 +19,12 @@ use Rattle.svg.specs.declared.reader.Walk.{Walk}
 use Rattle.svg.specs.declared.reader.Way.{Way}
 use Rattle.svg.specs.declared.reader.Way.the-variants.{On, Over}
 use Rattle.svg.specs.Language.{pick, arity}
-use Rattle.svg.specs.Machine.{ended, finished, inNumber, numberOf as decimalIn}
+use Rattle.svg.specs.Machine.{finished, inNumber, numberOf as decimalIn}
 use Rattle.svg.specs.Meaning.{wordOf, allOf}
 use Rattle.svg.specs.Import.{Told, told, stop}
 use Rattle.svg.specs.Hands.{sixCommand, restartsBy, handCommands, commandBy, counted, onward}
-use Rattle.svg.specs.Walk.{walk, Left, left, settledBy, settled, numberWith, numberBy, stepBy, thenStep, oneBy, endingOf, overBy, thenOver, lastBy, Sound}
+use Rattle.svg.specs.Walk.{walk, Left, left, settledBy, settled, numberWith, numberBy, endingOf, overBy, thenOver, lastBy}
 use Rattle.svg.proofs.Reading.{pick-yes, pick-no}
-use Rattle.svg.proofs.Walking.{SoundLeft}
 
 -- ---- a full group
 
@@ -81,21 +79,11 @@ module _ (w : Walk) (i : ℕ) (tags points : List ℕ) (word : ℕ) (h : Hand) (
   pub number-part : (h .have ≡ g → ⊥) → left (On (walk s h (w .pen))) tags points ≡ numberBy w i tags points
   number-part f = sym (pick-no _ _ _ (ne-eqb _ _ (λ z. f (z ∙ sym e)))) ∙ number-is
 
--- ---- one symbol, and the end
-
-pub sound-on : (q : Way) (v : Walk) (ts ps : List ℕ) (l : Left) → left q ts ps ≡ l → q ≡ On v → SoundLeft l → Sound v
-sound-on q v ts ps l e f S = subst (λ (x : Left). SoundLeft x) (sym e ∙ ap (λ (q : Way). left q ts ps) f) S
+-- ---- the end
 
 module _ (w : Walk) (i : ℕ) (tags points : List ℕ) (q : Way) (ts ps : List ℕ) (n : left q ts ps ≡ numberBy w i tags points) where
   back : (v : Way) → q ≡ v → left v ts ps ≡ numberBy w i tags points
   back v f = ap (λ (q : Way). left q ts ps) (sym f) ∙ n
-
-  module _ (y : Symbol) (e : ended (w .state .place) y ≡ true) where
-    pub one-number : (v : Walk) (x : Left) → q ≡ On v → x ≡ stepBy v i y ts ps → x ≡ oneBy w i y tags points
-    one-number v x f g = g ∙ ap (λ (l : Left). thenStep l i y) (back (On v) f) ∙ sym (pick-yes _ _ _ e)
-
-    pub one-out : (r : Done) → q ≡ Over r → left (Over r) ts ps ≡ oneBy w i y tags points
-    one-out r f = ap (λ (l : Left). thenStep l i y) (back (Over r) f) ∙ sym (pick-yes _ _ _ e)
 
   module _ (e : inNumber (w .state .place) ≡ true) where
     pub last-number : (v : Walk) (x : Told) → q ≡ On v → x ≡ overBy v i ts ps → x ≡ lastBy w i tags points
@@ -105,8 +93,5 @@ module _ (w : Walk) (i : ℕ) (tags points : List ℕ) (q : Way) (ts ps : List �
     last-out r f = ap (λ (l : Left). thenOver l i) (back (Over r) f) ∙ sym (pick-yes _ _ _ e)
 
 module _ (w : Walk) (i : ℕ) (tags points : List ℕ) where
-  pub one-plain : (y : Symbol) (x : Left) → ended (w .state .place) y ≡ false → x ≡ stepBy w i y tags points → x ≡ oneBy w i y tags points
-  one-plain y x e g = g ∙ sym (pick-no _ _ _ e)
-
   pub last-plain : (x : Told) → inNumber (w .state .place) ≡ false → x ≡ overBy w i tags points → x ≡ lastBy w i tags points
   last-plain x e g = g ∙ sym (pick-no _ _ _ e)

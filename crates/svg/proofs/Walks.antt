@@ -28,8 +28,8 @@ use Rattle.svg.specs.Machine.{numberOf, moved, ended, finished, inNumber
 use Rattle.svg.specs.Meaning.{wordOf}
 use Rattle.svg.specs.Hands.{commandBy, counted, onward}
 use Rattle.svg.specs.Import.{Told, told, importOf}
-use Rattle.svg.specs.Walk.{walk, readBy, Left, left, settled, numberBy, actBy, stepBy, thenStep, oneBy, lastBy, readInto, startOf, Sound}
-use Rattle.svg.proofs.Reading.{digit-bounds}
+use Rattle.svg.specs.Walk.{walk, readBy, Left, left, settled, numberBy, actBy, thenStep, oneBy, lastBy, readInto, startOf, Sound}
+use Rattle.svg.proofs.Reading.{pick-yes, pick-no, digit-bounds}
 use Rattle.svg.proofs.Places.{fresh}
 use Rattle.svg.proofs.Walking.{SoundLeft, number-sound, one-sound}
 use Rattle.svg.proofs.Deals.{stays, import-is}
@@ -93,12 +93,6 @@ number-state w v i tags points ts ps k =
     ap (stateOr s) k
     ∙ either-state (eqb (h .have) (arity (h .kind))) s (settled o i s (onward h)) (left (On (walk s h (w .pen))) tags points)
     (way-state (eqb (o .number) 0) s (onward h) (o .pen) (readBy (Undrawn (o .number) i) (o .pen)) (o .tags) (o .points)) refl
-
-picked-first : (t : Bool) (a b : Left) → t ≡ true → pick t a b ≡ a
-picked-first t a b e = rw e
-
-picked-second : (t : Bool) (a b : Left) → t ≡ false → pick t a b ≡ b
-picked-second t a b e = rw e
 
 -- ---- what is left to do: two for each byte, and one for a number that stands there
 abbrev atNumber : Place → ℕ
@@ -182,7 +176,7 @@ module _ {text : List ℕ} {pen₀ : Pen} {tags₀ points₀ tags points : List 
       let k : left (On v) ts ps ≡ numberBy w i tags points = ap (λ (q : Way). left q ts ps) (sym f) ∙ o in
       let gap : ended (v .state .place) y ≡ false = ap (λ (s : State). ended (s .place) y) (number-state w v i tags points ts ps k) in
       let again : oneBy v i y ts ps ≡ oneBy w i y tags points =
-      picked-second (ended (v .state .place) y) (thenStep (numberBy v i ts ps) i y) (stepBy v i y ts ps) gap ∙ ap (λ (o : Left). thenStep o i y) k ∙ sym (picked-first (ended (w .state .place) y) (thenStep (numberBy w i tags points) i y) (stepBy w i y tags points) n) in
+      pick-no _ _ _ gap ∙ ap (λ (o : Left). thenStep o i y) k ∙ sym (pick-yes _ _ _ n) in
       record {
         within = h .within;
         sound = subst (λ (o : Left). SoundLeft o) (sym k) (number-sound w i tags points (h .sound));
