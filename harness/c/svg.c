@@ -44,17 +44,19 @@ static int reads(const char *text, uint32_t number, uint64_t byte, const char *d
 int main(void) {
     static const float triangle[] = {0, 0, 3, 0, 0, 6, 0, 0};
     static const float again[] = {1, 2, 3, 4, 1, 2, 1, 2};
+    static const float parted[] = {16777218, 0.5, -0.0f, 16777220, 16777218, 0.5};
     static const float rounded[] = {16777216, 0.5, -0.0f, 16777220};
+    static const float full[] = {0, 0, 3, 0, 0, 6, 0, 0, 0, 0};
     CHECK(reads("M0 0L3 0L0 6Z", 0, 0, "\x09\x09\x0d", triangle, 8));
     CHECK(reads("\n M 0,0 3,0 0 6 ", 0, 0, "\x09\x09\x0d", triangle, 8));
     CHECK(reads("", 0, 0, "", NULL, 0) && reads(" \t\r\n\f", 0, 0, "", NULL, 0));
     CHECK(reads("M1 2L3 4ZL", 60, 10, "\x09\x0d", again, 6));
-    CHECK(reads("M16777217.5.5-000000000 16777219", 60, 14, "", NULL, 0));
+    CHECK(reads("M16777217.5.5-000000000 16777219", 0, 0, "\x09\x0d", parted, 6));
     CHECK(reads("M16777217 .5-000000000 16777219Q", 60, 32, "\x09", rounded, 4));
     CHECK(reads("M1 2,", 60, 5, "", NULL, 0) && reads("M1,,2", 60, 3, "", NULL, 0));
     CHECK(reads("Z", 60, 0, "", NULL, 0) && reads("M", 60, 1, "", NULL, 0) && reads("M0 0L1 2.", 60, 9, "", NULL, 0));
     CHECK(reads("M0 0L3 0L-1234567890 0", 61, 9, "\x09", triangle, 4));
-    CHECK(reads("M0 0L3 0L0 6L0 0 0 0 0 0L", 21, 20, "\x09\x09\x09\x09", (const float[]){0, 0, 3, 0, 0, 6, 0, 0, 0, 0}, 10));
+    CHECK(reads("M0 0L3 0L0 6L0 0 0 0 0 0L", 21, 24, "\x09\x09\x09\x09", full, 10));
     CHECK(hinth_import(pen, HINTH_PEN - 1, (const uint8_t *)"x", 1, tags, TAGS, points, POINTS, out, 2) == 21);
     CHECK(out[0] == 0 && out[1] == UNTOUCHED && pen[5] == 4);
     CHECK(hinth_import(pen, HINTH_PEN, (const uint8_t *)"x", 1, tags, TAGS, points, POINTS, NULL, 0) == 60);

@@ -18,8 +18,6 @@ const MARK: u32 = 0xa5a5_a5a5;
 const MOST_DIGITS: usize = 9;
 /// The request's language, and bytes that are next to it.
 const ALPHABET: &[u8] = b"MLQCZMLQCZ0123456789..,,--++  \t\n\x0c\rmlqczHAe\x0b\0\x80\xff;";
-/// Room that no text here fills.
-const AMPLE: (usize, usize) = (1 << 12, 1 << 14);
 
 // ---- the reference
 
@@ -464,7 +462,9 @@ fn ties(extent: Extent) -> Tally {
             }
             let larger = odd << random.below(6); // behind 2^24 the halves are whole numbers
             if larger < 1_000_000_000 {
-                [larger - 1, larger, larger + 1].map(|n| compare_number(tally, &spelled(&mut random, n, 0)));
+                for n in larger - 1..=larger + 1 {
+                    compare_number(tally, &spelled(&mut random, n, 0));
+                }
             }
         }
     })
