@@ -24,7 +24,8 @@ const ALPHABET: &[u8] = b"MLQCZMLQCZ0123456789..,,--++  \t\n\x0c\rmlqczHAe\x0b\0
 /// Why a text is left: the refusal's number and the byte that is told.
 type Left = (u32, usize);
 
-/// The commands that a text asks for, each with the byte that a refusal of it is told at.
+/// The commands that a text asks for, each with the byte that a refusal of it is told at: that behind its last number, of a Z
+/// its own, of the end the length.
 struct Parser<'a> {
     text: &'a [u8],
     at: usize,
@@ -62,7 +63,10 @@ impl Parser<'_> {
             }
             self.at += 1;
             match letter {
-                b'Z' => self.close(),
+                b'Z' => {
+                    self.asked.push((self.at - 1, Command::End));
+                    self.closed = true;
+                }
                 b'Q' => self.sequence(2, false)?,
                 b'C' => self.sequence(3, false)?,
                 _ => self.sequence(1, letter == b'M')?,
@@ -72,11 +76,6 @@ impl Parser<'_> {
         }
         self.asked.push((self.at, Command::End));
         Ok(())
-    }
-
-    fn close(&mut self) {
-        self.asked.push((self.at, Command::End));
-        self.closed = true;
     }
 
     /// Groups of so many points; of a moveto the first is the move.
@@ -358,7 +357,7 @@ fn made_texts(extent: Extent) -> Tally {
 
 /// Each byte changed, left out, doubled, and one put in before it.
 fn damaged(extent: Extent) -> Tally {
-    sweep::blocks(extent.scaled(40), |block, tally| {
+    sweep::blocks(extent.scaled(12), |block, tally| {
         let mut random = Random::seeded(!block);
         for _ in 0..100 {
             let text = random_text(&mut random).0.into_bytes();

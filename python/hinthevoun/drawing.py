@@ -35,7 +35,7 @@ class Sheet:
 
     def __init__(self, scale: float = 1.0, transform: Optional[Sequence[float]] = None) -> None:
         self._transforms = [six(transform if transform else (scale, 0.0, 0.0, scale, 0.0, 0.0))]
-        self._placed = 1  # how many of them have their tag
+        self._placed = 0  # how many of them have their tag
         self._pen, self._tags, self._points = Pen(), bytearray(64), array("I", bytes(4 * 256))
         self._done: List[bytes] = []  # the tags of each path
         self._drawn = 0  # how many tags of the pen are in them
@@ -79,7 +79,7 @@ class Sheet:
         """Gives the paths from here on another transform, six numbers."""
         if len(self._transforms) > self._placed:
             self._transforms.pop()  # no path was made under it
-        if six(transform) != self._transforms[-1]:
+        if self._transforms[-1:] != [six(transform)]:
             self._transforms.append(six(transform))
         return self
 
@@ -109,7 +109,7 @@ class Sheet:
 
     def words(self) -> "array[int]":
         """The words of the sheet: a head of six, and the scene: tags, points, transforms, styles."""
-        tags = bytes([TRANSFORM]) + b"".join(self._done)
+        tags = b"".join(self._done)
         workgroups = -(-len(tags) // TAGS_OF_A_WORKGROUP)
         packed = array("I", tags.ljust(TAGS_OF_A_WORKGROUP * workgroups, b"\0"))
         if sys.byteorder != "little":

@@ -66,7 +66,7 @@ def chosen(name: str, document: bytes, only: List[str]) -> List[Found]:
     found = found_in(name, document)
     for wanted in only:
         if not any(wanted in shape.ids for shape in found):
-            raise Wrong(f"{name}: no path has the id {wanted!r} or stands in a group that has it; ids are told by the drawing program")
+            raise Wrong(f"{name}: no path has the id {wanted!r}, nor stands in a group that has it; the drawing program tells ids")
     taken = [shape for shape in found if not only or not set(only).isdisjoint(shape.ids)]
     for shape in taken:
         if shape.why:
@@ -91,7 +91,8 @@ def about_refusal(refused: NotImported, data: bytes) -> str:
     at = refused.byte
     where = f"behind {quoted(data[max(0, at - CONTEXT):at])}" if at else "at its beginning"
     there = f", at {quoted(data[at:at + CONTEXT])}" if at < len(data) else ", where it ends"
-    return f"refused {refused.number} at byte {at:,} of its path data, {where}{there}: {refused.reason.why}; {cure_of(refused, data)}"
+    return (f"refused {refused.number} at byte {at:,} of its path data, {where}{there}: {refused.reason.why}; "
+            f"{cure_of(refused, data)}")
 
 
 def draw(sheet: Sheet, shape: Found) -> None:

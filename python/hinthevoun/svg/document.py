@@ -124,8 +124,8 @@ class _Reader:
             why = why or "it has no d, so no path data"
         elif not frame.visible:
             why = why or "it is hidden; show it, or take it out of the drawing"
-        return Found(f"{kind}{own} (line {self.parser.CurrentLineNumber:,})", frame.ids, attributes.get("d", "").encode(), frame.transform,
-                     frame.even_odd, why)
+        name, data = f"{kind}{own} (line {self.parser.CurrentLineNumber:,})", attributes.get("d", "").encode()
+        return Found(name, frame.ids, data, frame.transform, frame.even_odd, why)
 
     def ends(self, _: str) -> None:
         """The element that began last."""
@@ -137,8 +137,8 @@ class _Reader:
     def refuse_sheet(self, said: Optional["re.Match[str]"]) -> None:
         """A style sheet that says what is read from attributes alone."""
         if said:
-            raise Wrong(f"{self.name}: its style sheet says {said[0].rstrip(': ')!r}, which is read from the elements' own attributes "
-                        "alone; save it with presentation attributes in place of a style sheet")
+            raise Wrong(f"{self.name}: its style sheet says {said[0].rstrip(': ')!r}, which is read from the elements' own "
+                        "attributes alone; save it with presentation attributes in place of a style sheet")
 
     def says(self, text: str) -> None:
         """Text, of which only a style sheet's matters."""
