@@ -189,7 +189,7 @@ fn fraction_digit(k: Kind, h: u64, m: Num, d: u64) -> Step
     let n = m.n;
     let before = m.before;
     let behind = m.behind;
-    let from = m.from;
+    let first = m.from;
     if behind < 9 {
         Step::Go(State {
             place: Place::InFraction,
@@ -200,11 +200,11 @@ fn fraction_digit(k: Kind, h: u64, m: Num, d: u64) -> Step
                 n: n * 10 + d,
                 before,
                 behind: behind + 1,
-                from,
+                from: first,
             },
         })
     } else {
-        Step::Bad(Fault::TooLong, from)
+        Step::Bad(Fault::TooLong, first)
     }
 }
 
