@@ -1,4 +1,4 @@
--- What the contracts cite: `Decimal`, `Language`, `Machine`, `Meaning`, `Import`; inside, `Hands` and `Walk`. What is proved of them: `Unique`, `Exactly`, `GoesOn`, `First`; `Examples`.
+-- What the contracts cite: `Decimal`, `Language`, `Machine`, `Meaning`, `Import`; inside, `Hands` and `Walk`. What is proved of them: `Unique`, `Exactly`, `GoesOn`, `First`, `Room`; `Examples`.
 pub mod Decimal
 pub mod Language
 pub mod Machine
@@ -15,5 +15,8 @@ pub mod Said
 pub mod Imports
 pub mod Breaks
 pub mod Long
+pub mod Finite
+pub mod Orderly
+pub mod Room
 pub mod Only
 pub mod Examples
