@@ -1,4 +1,4 @@
--- What the contracts cite: `Decimal`, `Language`, `Machine`, `Meaning`, `Import`; inside, `Hands` and `Walk`. What is proved of them: `Unique`, `Exactly`, `GoesOn`, `First`, `Room`; `Examples`.
+-- What the contracts cite: `Decimal`, `Language`, `Machine`, `Meaning`, `Import`; inside, `Hands` and `Walk`. What is proved of them: `Unique`, `Exactly`, `GoesOn`, `First`, `Room`, `FirstByte`; `Examples`.
 pub mod Decimal
 pub mod Language
 pub mod Machine
@@ -18,5 +18,6 @@ pub mod Long
 pub mod Finite
 pub mod Orderly
 pub mod Room
+pub mod FirstByte
 pub mod Only
 pub mod Examples
