@@ -20,15 +20,16 @@ use Rattle.svg.specs.declared.steps.Fault.the-variants.{NotInLanguage, T
 use Rattle.svg.specs.declared.steps.Step.{Step}
 use Rattle.svg.specs.declared.steps.Step.the-variants.{Go, Lettered, Shut, Bad}
 use Rattle.svg.specs.declared.steps.Verdict.{Verdict}
-use Rattle.svg.specs.declared.steps.Verdict.the-variants.{Accepted as Text, Refused}
+use Rattle.svg.specs.declared.steps.Verdict.the-variants.{Refused}
 use Rattle.svg.specs.declared.reader.Ending.the-variants.{Faulty}
 use Rattle.svg.specs.Language.{pick, by, symbols, next}
-use Rattle.svg.specs.Machine.{num, wholeDigit, fractionDigit, firstLetter, opening, move, moved, finished, ended, wholeEnds, fractionEnds, inNumber, last, begun}
+use Rattle.svg.specs.Machine.{num, wholeDigit, fractionDigit, firstLetter, opening, move, moved, finished, ended, wholeEnds, fractionEnds, begun}
 use Rattle.svg.specs.Fold.{Turn, Going, Stopped, settle, turnOf, closing, verdictFrom}
 use Rattle.svg.specs.Unique.{verdict-stays}
 use Rattle.svg.specs.GoesOn.{after}
 use Rattle.svg.specs.Import.{importOf}
 use Rattle.svg.specs.Breaks.{fault-verdict}
+use Rattle.svg.specs.Long.{Short, closing-short}
 
 -- at this place no number is on its way, or the symbol ends the one that is: behind a letter, a number or a comma, or in the digits of a number to which it does not belong
 abbrev pub opensAt : Place → Symbol → Bool
@@ -177,29 +178,6 @@ module _ (W : List Symbol) where
       (settle-open (moved s i y) (move-open (s .place) (s .kind) (s .have) (s .num) i y (begins (s .place) i (s .num .from) y o b)))
 
 -- ---- the end of a text is no such number
-
-abbrev Short : Verdict → Type 0
-Short Text = Unit {0}
-Short (Refused NotInLanguage j) = Unit {0}
-Short (Refused TooLong j) = ⊥
-
-pick-short : (t : Bool) (a b : Verdict) → Short a → Short b → Short (pick t a b)
-pick-short true a b A B = A
-pick-short false a b A B = B
-
-last-short : (p : Place) (h i : ℕ) → Short (last p h i)
-last-short AtStart h i = tt
-last-short AtLetter h i = tt
-last-short AtSign h i = tt
-last-short InWhole h i = tt
-last-short AtPoint h i = tt
-last-short InFraction h i = tt
-last-short AtGap h i = pick-short (eqb h 0) _ _ tt tt
-last-short AtComma h i = tt
-last-short AtClose h i = tt
-
-closing-short : (s : State) (i : ℕ) → Short (closing (Going s) i)
-closing-short s i = pick-short (inNumber (s .place)) _ _ (last-short AtGap (next (s .kind) (s .have)) i) (last-short (s .place) (s .have) i)
 
 -- ---- from left to right
 

@@ -198,7 +198,7 @@ module _ (W ys : List Symbol) where
 
 -- ---- the end of a text is no such number
 
-abbrev Short : Verdict → Type 0
+abbrev pub Short : Verdict → Type 0
 Short Text = Unit {0}
 Short (Refused NotInLanguage j) = Unit {0}
 Short (Refused TooLong j) = ⊥
@@ -218,7 +218,7 @@ last-short AtGap h i = pick-short (eqb h 0) _ _ tt tt
 last-short AtComma h i = tt
 last-short AtClose h i = tt
 
-closing-short : (s : State) (i : ℕ) → Short (closing (Going s) i)
+pub closing-short : (s : State) (i : ℕ) → Short (closing (Going s) i)
 closing-short s i = pick-short (inNumber (s .place)) _ _ (last-short AtGap (next (s .kind) (s .have)) i) (last-short (s .place) (s .have) i)
 
 drop-next : (W : List Symbol) (i : ℕ) (y : Symbol) (ys : List Symbol) → drop i W ≡ y ∷ ys → drop (i + 1) W ≡ ys
