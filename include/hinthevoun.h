@@ -287,6 +287,30 @@ uint32_t hinth_end(uint64_t *pen, size_t pen_len, uint8_t *tags, size_t tags_len
                    size_t points_len);
 
 /*
+ * Imports path data of SVG: the absolute M, L, Q, C and Z of the standard, drawn by the commands above behind what the pen
+ * has drawn. White space is tab, line feed, form feed, carriage return and space; between two numbers stands at most one
+ * comma. A number has an optional sign, at most nine digits, and at most nine behind a point, which a digit follows; it
+ * becomes the nearest f32, ties to even. The pairs behind an M's first are lines. Z and the end of the text are ends; behind
+ * Z, a command other than M starts with a move to the closed subpath's first point. An empty text is one.
+ *
+ * The result is 0, or the number of the refusal that is met first as the text is read from left to right:
+ *
+ *   60  the text is not in that language
+ *   61  a number with ten digits before the point or behind it
+ *   21  no room for what a command itself writes, once its last number is read; or, before all else, fewer than HINTH_PEN
+ *       words lent as the pen
+ *
+ * out[0] is at 60 the first byte after which no text of the language goes on, text_len if it stops short; at 61 the first
+ * byte of the number, its sign included; at 21 the byte behind the command's last number, a Z's own byte, or text_len for
+ * the end; else 0. It is written where out_len is at least 1, and nothing else of out ever is.
+ *
+ * What earlier commands wrote stands after a refusal. The pen is written back on every answer, and tells how far they
+ * came; only a pen that is too short is not.
+ */
+uint32_t hinth_import(uint64_t *pen, size_t pen_len, const uint8_t *text, size_t text_len, uint8_t *tags, size_t tags_len,
+                      uint32_t *points, size_t points_len, uint64_t *out, size_t out_len);
+
+/*
  * Mends a list whose paths each lack at most one line, and says what was done. The list is only read; the lines are
  * appended in `room`, which may stand right behind the list in memory, so that both together are the mended list.
  *

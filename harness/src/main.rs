@@ -14,6 +14,7 @@ mod random;
 mod report;
 mod roots;
 mod sheets;
+mod svg;
 mod sweep;
 mod trig;
 
@@ -47,6 +48,7 @@ fn main() -> ExitCode {
             bench::run();
             checker::bench();
             cuts::bench();
+            svg::bench();
             ExitCode::SUCCESS
         }
         _ => {
@@ -68,6 +70,7 @@ fn checks(extent: Extent, only: &str) -> ExitCode {
     sheets::run(&mut report, extent);
     pattern::run(&mut report, extent);
     cuts::run(&mut report, extent);
+    svg::run(&mut report, extent);
     mender::run(&mut report, extent);
     match report.close() {
         true => ExitCode::SUCCESS,

@@ -82,10 +82,10 @@ unsafe extern "C" {
 }
 
 /// A point by its two words.
-type Spot = [u32; 2];
+pub type Spot = [u32; 2];
 
 #[derive(Clone, Debug)]
-enum Command {
+pub enum Command {
     Move(Spot),
     /// A line, a quadratic or a cubic: its points behind its start.
     Draw(Vec<Spot>),
@@ -93,7 +93,7 @@ enum Command {
 }
 
 impl Command {
-    fn spots(&self) -> &[Spot] {
+    pub fn spots(&self) -> &[Spot] {
         match self {
             Command::Move(to) => std::slice::from_ref(to),
             Command::Draw(spots) => spots,
@@ -105,7 +105,7 @@ impl Command {
 // ---- what commands mean
 
 #[derive(Clone, Debug, PartialEq)]
-struct Subpath {
+pub struct Subpath {
     start: Spot,
     segments: Vec<Vec<Spot>>,
     finished: bool,
@@ -125,7 +125,7 @@ fn is_finite(spot: &Spot) -> bool {
 }
 
 /// The subpaths of some commands, cut at each move and end; the last may be open.
-fn subpaths(commands: &[Command]) -> Vec<Subpath> {
+pub fn subpaths(commands: &[Command]) -> Vec<Subpath> {
     let mut found: Vec<Subpath> = vec![];
     for (i, command) in commands.iter().enumerate() {
         let Command::Move(start) = command else { continue };
@@ -145,7 +145,7 @@ fn subpaths(commands: &[Command]) -> Vec<Subpath> {
     found
 }
 
-fn encoded(subpaths: &[Subpath]) -> (Vec<u8>, Vec<u32>) {
+pub fn encoded(subpaths: &[Subpath]) -> (Vec<u8>, Vec<u32>) {
     let (mut tags, mut points) = (vec![], vec![]);
     for subpath in subpaths {
         points.extend(subpath.start);
@@ -181,10 +181,10 @@ fn decoded(tags: &[u8], points: &[u32]) -> Option<Vec<Subpath>> {
 
 /// The pen and two buffers, with two marks behind each that nothing may touch.
 #[derive(Clone, Debug, PartialEq)]
-struct Sheet {
-    pen: [u64; PEN],
-    tags: Vec<u8>,
-    points: Vec<u32>,
+pub struct Sheet {
+    pub pen: [u64; PEN],
+    pub tags: Vec<u8>,
+    pub points: Vec<u32>,
 }
 
 impl Sheet {
@@ -192,7 +192,7 @@ impl Sheet {
         Sheet { pen: [0; PEN], tags: vec![MARK_TAG; tags + 2], points: vec![MARK; points + 2] }
     }
 
-    fn room(&self) -> (usize, usize) {
+    pub fn room(&self) -> (usize, usize) {
         (self.tags.len() - 2, self.points.len() - 2)
     }
 
@@ -235,7 +235,7 @@ fn expected(commands: &[Command], room: (usize, usize)) -> Option<(Vec<u8>, Vec<
 }
 
 /// The number that a command has to get behind those accepted.
-fn answer(accepted: &[Command], command: &Command, room: (usize, usize)) -> u32 {
+pub fn answer(accepted: &[Command], command: &Command, room: (usize, usize)) -> u32 {
     let is_open = !matches!(accepted.last(), None | Some(Command::End));
     let more = [accepted, std::slice::from_ref(command)].concat();
     match command {
@@ -362,8 +362,8 @@ fn balances<'a>(lines: impl Iterator<Item = &'a [u32; 6]>) -> bool {
 
 // ---- pens that are made up
 
-/// What a command writes with any pen: its tags and words by the paper, in wide arithmetic.
-fn made_up(random: &mut Random, tally: &mut Tally) {
+/// Buffers of any bytes with a pen of any words, which count little or much.
+pub fn with_any_pen(random: &mut Random) -> Sheet {
     let mut sheet = Sheet::with_room(random.below(6) as usize, random.below(16) as usize);
     sheet.tags.fill_with(|| random.word() as u8);
     let count = |random: &mut Random| match random.below(4) {
@@ -378,9 +378,15 @@ fn made_up(random: &mut Random, tally: &mut Tally) {
     let last = if random.below(3) == 0 { first } else { last };
     let [fx, fy, lx, ly] = [first[0], first[1], last[0], last[1]].map(|word| high(random, word));
     sheet.pen = [opened, fx, fy, lx, ly, count(random), count(random)];
+    sheet
+}
+
+/// What a command writes with any pen: its tags and words by the paper, in wide arithmetic.
+fn made_up(random: &mut Random, tally: &mut Tally) {
+    let mut sheet = with_any_pen(random);
     let (command, before) = (any_command(random), sheet.clone());
     let got = sheet.command(&command);
-    let wanted = by_hand(&before, opened.min(2), first, last, &command);
+    let wanted = by_hand(&before, &command);
     let right = match &wanted {
         Ok(after) => got == 0 && sheet == *after,
         Err(number) => got == *number && sheet == before,
@@ -389,8 +395,10 @@ fn made_up(random: &mut Random, tally: &mut Tally) {
 }
 
 /// The sheet behind a command, or its refusal.
-fn by_hand(sheet: &Sheet, opened: u64, first: Spot, last: Spot, command: &Command) -> Result<Sheet, u32> {
+pub fn by_hand(sheet: &Sheet, command: &Command) -> Result<Sheet, u32> {
     let ends = !matches!(command, Command::Draw(_));
+    let opened = sheet.pen[0].min(2);
+    let [first, last] = [[1, 2], [3, 4]].map(|at| at.map(|i: usize| sheet.pen[i] as u32));
     if !ends && opened == 0 {
         return Err(20);
     }

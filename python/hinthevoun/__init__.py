@@ -10,6 +10,7 @@ The functions are those of include/hinthevoun.h, one for one:
     sqrt, hypot, cbrt, two_thirds, half,
     sin, cos, atan2, asin, acos                     the mathematics, each answer an f32
     move, line, quad, cubic, end                    drawing fills: from commands to tags and points, with a Pen
+    import_path                                     the path data of an SVG as such commands: hinth_import there
 
 Sheet draws a whole sheet with these: docs/DRAWING.md.
 
@@ -29,6 +30,7 @@ from .checking import NotChecked, Verdict, check
 from .cutting import NotCut, Table, cut, read_cut
 from .drawing import Sheet
 from .errors import NoLibrary, Wrong
+from .importing import NotImported, import_path
 from .maths import acos, asin, atan2, cbrt, cos, half, hypot, sin, sqrt, two_thirds
 from .mending import Mended, NotMendable, PathCase, mend, report_of
 from .moving import Moved, NotMoved, to_f32, to_i16
@@ -36,7 +38,7 @@ from .pattern import NotDrawn, Pen, cubic, end, line, move, quad
 from .refusals import Refusal
 
 __version__ = "0.1.0"
-__all__ = ["EMPTY_BOX", "Layout", "Mended", "Moved", "NoLibrary", "NotChecked", "NotCut", "NotDrawn", "NotMendable",
-           "NotMoved", "PathCase", "Pen", "Refusal", "Sheet", "Table", "Verdict", "Wrong", "acos", "asin", "atan2",
-           "cbrt", "check", "cos", "cubic", "cut", "empty_boxes", "end", "flatten", "half", "hypot", "line", "mend",
+__all__ = ["EMPTY_BOX", "Layout", "Mended", "Moved", "NoLibrary", "NotChecked", "NotCut", "NotDrawn", "NotImported",
+           "NotMendable", "NotMoved", "PathCase", "Pen", "Refusal", "Sheet", "Table", "Verdict", "Wrong", "acos", "asin", "atan2",
+           "cbrt", "check", "cos", "cubic", "cut", "empty_boxes", "end", "flatten", "half", "hypot", "import_path", "line", "mend",
            "move", "quad", "read_cut", "report_of", "scan", "sin", "sqrt", "to_f32", "to_i16", "two_thirds"]

@@ -12,6 +12,7 @@ from .saying import printable, say
 DONE, REFUSED, BAD = 0, 1, 2
 
 COMMANDS = {
+    "import": "the paths of an SVG as a sheet",
     "flatten": "a sheet in, its lines and boxes out",
     "draw": "a picture of a list or a sheet, or of one laid over another",
     "compare": "a page that lays two folders of drawings over each other, worst first",
@@ -30,6 +31,7 @@ From the encoded paths of a sheet to the lines that a plotter inks and a knife t
 
 Examples:
 
+  hinth import samples/import/inkscape.svg -o a.sheet   take a drawing from a drawing program
   hinth flatten samples/socket.sheet -o socket.lines    flatten a sheet; the list is written if it is whole
   hinth draw --mm 0.5 --ink socket.lines -o socket.svg  look at it: what is inked, and every open point
   hinth draw old.lines new.lines -o both.svg            lay one list over another

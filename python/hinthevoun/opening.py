@@ -29,6 +29,7 @@ _CALLS: Dict[str, List[Any]] = {
     **{name: _LENT * 5 for name in ("hinth_to_f32", "hinth_to_i16")},
     **{f"hinth_{name}": [*_LENT, *[_FLOAT] * floats, *_LENT, *_LENT]
        for name, floats in (("move", 2), ("line", 2), ("quad", 4), ("cubic", 6), ("end", 0))},
+    "hinth_import": _LENT * 5,
     "hinth_cut": [*_LENT, _WORD, *_LENT, *_LENT],
     "hinth_read_cut": [*_LENT, _WORD, *_LENT, *_LENT],
     "hinth_mend": [*_LENT, _WORD, *_LENT, *_LENT, *_LENT],

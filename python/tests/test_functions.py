@@ -196,8 +196,9 @@ class Mathematics(unittest.TestCase):
 
     def test_every_function_of_the_header_has_one(self):
         for name in header_names():
-            assert callable(getattr(hinthevoun, name)), name
-            assert getattr(hinthevoun, name).__doc__, name
+            function = getattr(hinthevoun, "import_path" if name == "import" else name)  # a word of Python's own
+            assert callable(function), name
+            assert function.__doc__, name
             assert getattr(load(), f"hinth_{name}").argtypes, name
 
     def test_the_library_has_these_functions_and_asks_for_none(self):

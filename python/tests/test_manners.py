@@ -15,7 +15,7 @@ import zipfile
 from support import PACKAGE, ROOT, SOCKET_LINES, SOCKET_SHEET, TRIANGLE_SHEET, hinth, holds, in_folder, same
 from test_flatten import many
 
-COMMANDS = ("flatten", "draw", "compare", "info")
+COMMANDS = ("import", "flatten", "draw", "compare", "info")
 LIBRARY = ROOT / "target/staticlib/libhinthevoun.so"
 OURS = {"hinthevoun", "support", "browser", "oracle_sheets", "test_flatten"}
 

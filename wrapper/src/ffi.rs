@@ -332,3 +332,39 @@ pub fn mend(list: &[u32], within: u32, room: &mut [u32], report: &mut [u32]) -> 
     };
     (number, out)
 }
+
+unsafe extern "C" {
+    fn hinth_import(
+        pen: *mut u64,
+        pen_len: usize,
+        text: *const u8,
+        text_len: usize,
+        tags: *mut u8,
+        tags_len: usize,
+        points: *mut u32,
+        points_len: usize,
+        out: *mut u64,
+        out_len: usize,
+    ) -> u32;
+}
+
+/// The refusal's number or 0, and the byte that is told.
+pub fn import(pen: &mut [u64], text: &[u8], tags: &mut [u8], points: &mut [u32]) -> (u32, u64) {
+    let mut out = [0];
+    // SAFETY: as in `scan`.
+    let number = unsafe {
+        hinth_import(
+            pen.as_mut_ptr(),
+            pen.len(),
+            text.as_ptr(),
+            text.len(),
+            tags.as_mut_ptr(),
+            tags.len(),
+            points.as_mut_ptr(),
+            points.len(),
+            out.as_mut_ptr(),
+            out.len(),
+        )
+    };
+    (number, out[0])
+}

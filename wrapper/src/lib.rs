@@ -27,11 +27,13 @@ mod ffi;
 mod mend;
 pub mod pattern;
 mod sheets;
+mod svg;
 
 pub use check::{CheckRefusal, Verdict, check};
 pub use cut::{CutRefusal, ReadRefusal, Table, cut, read_cut};
 pub use mend::{Mend, MendRefusal, PathCase, mend, report_of};
 pub use sheets::{MoveRefusal, Moved, to_f32, to_i16};
+pub use svg::ImportRefusal;
 
 /// Where in a scene its parts begin, in words, and how many workgroups of 256 tags to take.
 #[derive(Clone, Copy, Debug, PartialEq, Eq)]

@@ -1,7 +1,7 @@
 //! Drawing fills: moves, lines, quadratics, cubics and ends become tag bytes and f32 point words. Where they go in a
 //! scene, and which tags stay with the caller, is in `docs/DRAWING.md`.
 
-use crate::ffi;
+use crate::{ImportRefusal, ffi, svg};
 
 /// What is open, and how much is written. It goes with every command, which changes it only if it is accepted.
 #[derive(Clone, Copy, Debug, Default, PartialEq, Eq)]
@@ -91,13 +91,19 @@ impl Pen {
         answered(ffi::pen_cubic(&mut self.words, [by[0], by[1], to], tags, points))
     }
 
+    /// Reads the path data of an SVG, absolute M, L, Q, C and Z, and draws it; its end finishes what is open. After a refusal
+    /// what the commands before it wrote stands, and the pen tells how far.
+    pub fn import(&mut self, text: &[u8], tags: &mut [u8], points: &mut [u32]) -> Result<(), ImportRefusal> {
+        svg::answered(ffi::import(&mut self.words, text, tags, points))
+    }
+
     /// Finishes what is open, with a line to its start where it ends elsewhere.
     pub fn end(&mut self, tags: &mut [u8], points: &mut [u32]) -> Result<(), Refused> {
         answered(ffi::pen_end(&mut self.words, tags, points))
     }
 }
 
-fn answered(number: u32) -> Result<(), Refused> {
+pub(crate) fn answered(number: u32) -> Result<(), Refused> {
     match number {
         0 => Ok(()),
         20 => Err(Refused::NoMove),

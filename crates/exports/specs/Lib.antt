@@ -3,6 +3,7 @@ pub mod Scan
 pub mod Convert
 pub mod Check
 pub mod Pen
+pub mod Import
 pub mod Mend
 pub mod Only
 pub mod Cut

@@ -31,6 +31,7 @@ use Rattle.sheets.specs.Moving.{toF32, toI16}
 use Rattle.sheets.specs.Written.{stored}
 use Rattle.exports.specs.Convert.{moved, movedOf}
 use Rattle.exports.specs.Pen.{spotOf, penned, pennedBy}
+use Rattle.exports.specs.Import.{imported, importedBy}
 
 pub hinth-flatten-only : (layout : Layout) (scene prefixes : List ℕ) (ps : List PathBox) (ws os : List ℕ)
     → Only (λ (r : ℕ × (List PathBox × (List ℕ × List ℕ))). reported (r .0) (r .1 .0) (r .1 .1 .0) (r .1 .1 .1) ≡ reportedOf (callOf layout scene prefixes ps ws) os)
@@ -110,6 +111,10 @@ module _ (ws tags points : List ℕ) where
 
   pub hinth-end-only : Only (Pens end)
   hinth-end-only = command-only ws end tags points
+
+pub hinth-import-only : (ws bs tags points os : List ℕ)
+    → Only (λ (r : ℕ × (List ℕ × (List ℕ × (List ℕ × List ℕ)))). imported (r .0) (r .1 .0) (r .1 .1 .0) (r .1 .1 .1 .0) (r .1 .1 .1 .1) ≡ importedBy ws bs tags points os)
+hinth-import-only ws bs tags points os r s p q = let e = p ∙ sym q in λ i. (e i .number, (e i .pen, (e i .tags, (e i .points, e i .out))))
 
 pub hinth-cut-only : (path : ℕ) (ws bs os : List ℕ)
     → Only (λ (r : ℕ × (List ℕ × List ℕ)). written (r .0) (r .1 .0) (r .1 .1) ≡ writtenOf (cutOf path ws bs) os)

@@ -1,4 +1,4 @@
-// The C interface: each function is one of `maths`, `scene`, `flatten`, `pattern`, `sheets`, `checker`, `mender` or `hpgl` under a
+// The C interface: each function is one of `maths`, `scene`, `flatten`, `pattern`, `svg`, `sheets`, `checker`, `mender` or `hpgl` under a
 // name that C and Rust can link. See include/hinthevoun.h.
 ghost use mathlib.Core.Path.{_≡_};
 ghost use Rattle.maths.specs.Numbers.{halfOf};
@@ -9,6 +9,7 @@ pub mod call;
 pub mod check;
 pub mod convert;
 pub mod cut;
+pub mod import;
 pub mod mending;
 pub mod pen;
 pub mod scan;

@@ -47,7 +47,7 @@ fn spot_at(pen: &[u64], at: usize) -> Spot
     }
 }
 
-fn read_pen(pen: &[u64]) -> Pen
+pub(crate) fn read_pen(pen: &[u64]) -> Pen
     requires { ⌜ 7 ≤ length (now pen) ⌝ }
     ensures { λ r. ⌜ r ≡ penRead (now (pen .entry)) ⌝ }
 {
@@ -66,7 +66,7 @@ fn read_pen(pen: &[u64]) -> Pen
     }
 }
 
-fn put_pen(words: &mut [u64], pen: Pen)
+pub(crate) fn put_pen(words: &mut [u64], pen: Pen)
     requires { ⌜ 7 ≤ length (now words) ⌝ }
     ensures { λ _. ⌜ now (words .exit) ≡ sets (now (words .entry)) 0 (penWords pen) ⌝ }
 {

@@ -7,7 +7,7 @@ use scene::tags::Scanned;
 use scene::tags::scan;
 
 // Nothing is written where there is no room.
-fn put_first(out: &mut [u64], count: u64)
+pub(crate) fn put_first(out: &mut [u64], count: u64)
     ensures { λ _. ⌜ now (out .exit) ≡ firstOf count (now (out .entry)) ⌝ }
 {
     if 0 < out.len() {

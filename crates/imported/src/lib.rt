@@ -1,0 +1,1 @@
+// From path data to lines: what was imported is watertight: see specs/. No code.

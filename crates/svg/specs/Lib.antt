@@ -1,0 +1,23 @@
+-- What the contracts cite: `Decimal`, `Language`, `Machine`, `Meaning`, `Import`; inside, `Hands` and `Walk`. What is proved of them: `Unique`, `Exactly`, `GoesOn`, `First`, `Room`, `FirstByte`; `Examples`.
+pub mod Decimal
+pub mod Language
+pub mod Machine
+pub mod Meaning
+pub mod Import
+pub mod Hands
+pub mod Walk
+pub mod Fold
+pub mod Unique
+pub mod Exactly
+pub mod GoesOn
+pub mod First
+pub mod Said
+pub mod Imports
+pub mod Breaks
+pub mod Long
+pub mod Finite
+pub mod Orderly
+pub mod Room
+pub mod FirstByte
+pub mod Only
+pub mod Examples

@@ -1,0 +1,1 @@
+"""SVG documents: their paths, where groups and transforms put them, and what is not imported."""
