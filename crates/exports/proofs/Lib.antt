@@ -1,2 +1,3 @@
 pub mod Converted
 pub mod Pens
+pub mod Profiled

@@ -20,6 +20,7 @@ use Rattle.profile.specs.Verdict.{first, unreadOr, unreadAt, againstOr, 
 use Rattle.profile.specs.Trail.{Small, InReach, pieceOf, enteredOf, behindOf, plainFacts, segmentFacts, stepped, segmentStep, stepBy, stepOf, noTrail}
 use Rattle.profile.specs.Walk.{AllRead, ReadBy, TrailAt}
 use Rattle.profile.specs.Parts.{read-head-is, head-read, in-reach}
+use Rattle.profile.specs.Passed.{AllFine, one-tells, read-silent, fine-silent, all-fine}
 use Rattle.profile.specs.declared.rules.Rule.{Rule}
 use Rattle.profile.specs.declared.rules.Fault.{Fault}
 use Rattle.profile.specs.declared.rules.Fault.the-variants.{Fine, Breaks}
@@ -64,31 +65,6 @@ segments-few g (suc i) =
 pub counted-few : (g : Given) (i n : ℕ) → n ≡ segments g i → i < 2 ^ 40 → n < 2 ^ 40
 counted-few g i n e l = omega (arith, e, segments-few g i .0)
 
--- ---- the first tag that tells something
-
--- where none does, nothing is told
-pub none-tells : (f : ℕ → Verdict → Verdict) (v : Verdict) (i n : ℕ) → ((j : ℕ) → j < i + n → (w : Verdict) → f j w ≡ w) → first f i n v ≡ v
-unfolding first
-none-tells f v i zero k = refl
-none-tells f v i (suc n) k = k i (omega arith) (first f (suc i) n v) ∙ none-tells f v (suc i) n (λ j l. k j (omega arith))
-
--- where none does before tag j, it is what tag j tells
-one-tells : (f : ℕ → Verdict → Verdict) (v u : Verdict) (i n j : ℕ) → i ≤ j → j < i + n → ((k : ℕ) → k < j → (w : Verdict) → f k w ≡ w) → ((w : Verdict) → f j w ≡ u) → first f i n v ≡ u
-unfolding first
-one-tells f v u i zero j a l k t = absurd (omega arith)
-one-tells f v u i (suc n) j a l k t =
-    elim (ℕ-discrete i j) [
-      | yes e ↦ ap (λ (m : ℕ). f m (first f (suc i) n v)) e ∙ t (first f (suc i) n v)
-      | no ne ↦ k i (omega (arith, ne)) (first f (suc i) n v) ∙ one-tells f v u (suc i) n j (omega (arith, ne)) (omega arith) k t
-    ]
-
-read-silent : (g : Given) (n : ℕ) → AllRead g n → (j : ℕ) → j < n → (w : Verdict) → unreadAt g j w ≡ w
-unfolding unreadOr
-read-silent g n all j l w = rw (all j l)
-
-pub all-read : (g : Given) → AllRead g (tags g) → (v : Verdict) → first (unreadAt g) 0 (tags g) v ≡ v
-all-read g all v = none-tells (unreadAt g) v 0 (tags g) (λ j l. read-silent g (tags g) all j (omega arith))
-
 pub stops-unread : (g : Given) (i : ℕ) (why : Refusal) → AllRead g i → i < tags g → readAt g i ≡ refused why → (v : Verdict) → first (unreadAt g) 0 (tags g) v ≡ Unread why i
 unfolding unreadOr
 stops-unread g i why all l e v = one-tells (unreadAt g) v (Unread why i) 0 (tags g) i (omega arith) (omega arith) (read-silent g i all) (λ w. rw e)
@@ -109,23 +85,11 @@ segment-reached g i h e k s = rw k (in-reach g i (headOf g i) e (not-true _ (rw 
 
 -- ---- the second pass
 
--- the first n tags break no rule
-abbrev pub AllFine : Given → ℕ → Type 0
-AllFine g n = (i : ℕ) → i < n → ruleAt g i ≡ Fine
-
 pub none-fine : (g : Given) → AllFine g 0
 none-fine g i h = absurd (omega arith)
 
 pub one-fine : (g : Given) (i : ℕ) → AllFine g i → ruleAt g i ≡ Fine → AllFine g (suc i)
 one-fine g i all e j l = elim (ℕ-discrete j i) [ yes k ↦ subst (λ (j : ℕ). ruleAt g j ≡ Fine) (sym k) e | no n ↦ all j (omega (arith, n)) ]
-
-fine-silent : (g : Given) (n : ℕ) → AllFine g n → (j : ℕ) → j < n → (w : Verdict) → againstAt g j w ≡ w
-unfolding againstOr
-fine-silent g n all j l w = rw (all j l)
-
-pub all-fine : (g : Given) (n m : ℕ) → AllFine g (tags g) → n ≡ segments g (tags g) → m ≡ subpaths g (tags g) → Passed n m ≡ rulesOf g
-unfolding rulesOf
-all-fine g n m all e f = rw (e, f) (sym (none-tells (againstAt g) _ 0 (tags g) (λ j l. fine-silent g (tags g) all j (omega arith))))
 
 pub stops-against : (g : Given) (i : ℕ) (rule : Rule) → AllFine g i → i < tags g → ruleAt g i ≡ Breaks rule → Against rule i ≡ rulesOf g
 unfolding rulesOf againstOr
@@ -260,7 +224,7 @@ module _ (g : Given) (i : ℕ) (t : Trail) (k : TrailAt g i t) where
   step-trail total all r e = subst (λ (r : Stepped). TrailAt g (suc i) (r .trail)) (sym e) (step-says total all _ refl .1)
 
 pub at-end : (g : Given) (i : ℕ) (t : Trail) → TrailAt g i t → AllFine g i → i ≡ tags g → Passed (t .segments) (t .subpaths) ≡ rulesOf g
-at-end g i t k all e = let z = subst (λ (n : ℕ). TrailAt g n t × AllFine g n) e (k, all) in all-fine g (t .segments) (t .subpaths) (z .1) (z .0 .counted) (z .0 .finished)
+at-end g i t k all e = let z = subst (λ (n : ℕ). TrailAt g n t × AllFine g n) e (k, all) in ap (λ (n : ℕ). Passed n (t .subpaths)) (z .0 .counted) ∙ ap (Passed (segments g (tags g))) (z .0 .finished) ∙ sym (all-fine g (z .1))
 
 -- ---- what the first pass answered
 

@@ -4,4 +4,5 @@ pub mod Verdict
 pub mod Trail
 pub mod Walk
 pub mod Parts
+pub mod Passed
 pub mod Only

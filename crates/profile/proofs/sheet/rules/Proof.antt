@@ -5,8 +5,8 @@ use native.Mathlib.Numerals.{add-one}
 use native.Mathlib.Omega.{arith}
 use Rattle.profile.specs.Reads.{given}
 use Rattle.profile.specs.Walk.{TrailAt}
-use Rattle.profile.specs.declared.trail.Trail.{Trail}
-use Rattle.profile.proofs.Passes.{AllFine, none-fine, one-fine, all-fine, stops-against, no-trail-at, trail-small, step-rule, step-trail, at-end}
+use Rattle.profile.specs.Passed.{AllFine}
+use Rattle.profile.proofs.Passes.{none-fine, one-fine, stops-against, no-trail-at, trail-small, step-rule, step-trail, at-end}
 use borrow.Author.Needs.{needs}
 use Rattle.profile.proofs.sheet.rules.Statement.{statement}
 use Rattle.profile.proofs.sheet.rules.Tie as tie

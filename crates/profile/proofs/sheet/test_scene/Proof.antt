@@ -3,7 +3,8 @@ use mathlib.Core.Path.{sym, _∙_}
 use borrow.Author.Tests.{lt-ltb, le-ltb}
 use Rattle.flatten.specs.Call.{firstTurn, startOf}
 use Rattle.profile.specs.Verdict.{startedBy, profileOf}
-use Rattle.profile.proofs.Passes.{all-read, by-all, by-refused}
+use Rattle.profile.specs.Passed.{all-read}
+use Rattle.profile.proofs.Passes.{by-all, by-refused}
 use borrow.Author.Needs.{needs}
 use Rattle.profile.proofs.sheet.test_scene.Statement.{statement}
 use Rattle.profile.proofs.sheet.test_scene.Tie as tie
