@@ -10,6 +10,7 @@ mod half;
 mod interface;
 mod mender;
 mod pattern;
+mod profile;
 mod random;
 mod report;
 mod roots;
@@ -67,6 +68,7 @@ fn checks(extent: Extent, only: &str) -> ExitCode {
     checker::run(&mut report, extent);
     sheets::run(&mut report, extent);
     pattern::run(&mut report, extent);
+    profile::run(&mut report, extent);
     cuts::run(&mut report, extent);
     mender::run(&mut report, extent);
     match report.close() {

@@ -112,7 +112,7 @@ record LastOpen (g : Given) (n : ℕ) : Type 0 where
   no-end : hasEnd (headOf g at) ≡ false
   last : segments g n ≡ segments g (suc at)
 
-begins-here : (g : Given) (i : ℕ) → openAt g i ≡ false → beginning g i ≡ i
+pub begins-here : (g : Given) (i : ℕ) → openAt g i ≡ false → beginning g i ≡ i
 unfolding beginning
 begins-here g zero e = refl
 begins-here g (suc i) e = rw e
@@ -155,7 +155,7 @@ not-not true e = refl
 not-not false e = let z : _≡_ {A = ℕ} 0 1 = cc in absurd (omega arith)
 
 -- the first segment stays the first
-Leads : Given → ℕ → ℕ → Type 0
+unfoldable pub Leads : Given → ℕ → ℕ → Type 0
 Leads g i j = (leading g j ≡ leading g i) × (eqb (segments g j) 0 ≡ false)
 
 not-zero : (m n : ℕ) → eqb m 0 ≡ false → eqb (m + n) 0 ≡ false
@@ -172,7 +172,7 @@ lead-next : (g : Given) (i j : ℕ) → Leads g i j → Leads g i (suc j)
 unfolding Leads leading segments
 lead-next g i j r = let n = not-zero (segments g j) (once (hasSegment (headOf g j))) (r .1) in (rw n (r .0), n)
 
-leads : (g : Given) (i j : ℕ) → i < j → hasSegment (headOf g i) ≡ true → Leads g i j
+pub leads : (g : Given) (i j : ℕ) → i < j → hasSegment (headOf g i) ≡ true → Leads g i j
 leads g i zero l s = absurd (omega arith)
 leads g i (suc j) l s = elim (ℕ-discrete i j) [ yes e ↦ subst (λ (k : ℕ). Leads g i (suc k)) e (lead-first g i s) | no ne ↦ lead-next g i j (leads g i j (omega (arith, ne)) s) ]
 
