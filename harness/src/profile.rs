@@ -281,8 +281,13 @@ pub fn run(report: &mut Report, extent: Extent) {
 
 const BLOCK: u64 = 500;
 
+/// A hundred thousand sheets, or five million.
+fn many(extent: Extent) -> u64 {
+    if extent == Extent::Whole { 10_000 } else { 200 }
+}
+
 fn broken_sheets(extent: Extent) -> Tally {
-    sweep::blocks(extent.scaled(200), |block, tally| {
+    sweep::blocks(many(extent), |block, tally| {
         let mut random = Random::seeded(2 << 40 | block);
         for case in 0..BLOCK {
             let mut sheet = layup(&mut random);
@@ -296,7 +301,7 @@ fn broken_sheets(extent: Extent) -> Tally {
 }
 
 fn random_tags(extent: Extent) -> Tally {
-    sweep::blocks(extent.scaled(200), |block, tally| {
+    sweep::blocks(many(extent), |block, tally| {
         let mut random = Random::seeded(3 << 40 | block);
         for case in 0..BLOCK {
             let kept = [0xff, 0x6f, 0x2f, 0x0f][random.below(4) as usize];

@@ -63,7 +63,8 @@ class Function(unittest.TestCase):
     def test_reads_come_before_rules(self):
         same(tested(scene_with({73: ONE})[:64]), (2, 0))
         same(tested(scene_with()[:63]), (1, 0))
-        same(tested(scene_with({78: 0x80000000}), array("I", [0] * 4)), (3, 4))
+        same(tested(scene_with(), array("I", [0] * 4)), (3, 4))
+        same(tested(scene_with({78: 0x80000000}), array("I", [0] * 4)), (3, 3))  # the neighbour of a stroke
 
     def test_what_a_refusal_says(self):
         holds(str(NotPassed(75, 4098)), "refused 75 at tag 4098: it is the 4,097th segment")

@@ -171,9 +171,15 @@ module _ (g : Given) (i : ℕ) (t : Trail) (k : TrailAt g i t) where
   unfolding enteredOf
   counts-kept = (k .counted, k .finished)
 
+  -- no segment stands behind the last of all
+  last-is : hasSegment (headOf g i) ≡ true → (total : ℕ) → total ≡ segments g (tags g) → eqb total (enteredOf t piece .segments + 1) ≡ factsAt g i .last
+  unfolding factsAt
+  last-is s total all =
+      ap (λ (n : ℕ). eqb n (enteredOf t piece .segments + 1)) all ∙ ap (eqb (segments g (tags g))) (ap (λ (n : ℕ). n + 1) (counts-kept .0) ∙ sym (more-segments g i s))
+
   segment-rule : hasSegment (headOf g i) ≡ true → (total : ℕ) → total ≡ segments g (tags g) → ruleOf (segmentFacts (headOf g i) piece (enteredOf t piece) total) ≡ ruleAt g i
   unfolding segmentFacts factsAt pieceOf
-  segment-rule s total all = rw (s, start-is, words-are, counts-kept .0, all, more-segments g i s)
+  segment-rule s total all = rw (s, start-is, words-are, last-is s total all, counts-kept .0)
 
   segment-behind : hasSegment (headOf g i) ≡ true → (e : Bool) → hasEnd (headOf g i) ≡ e → TrailAt g (suc i) (behindOf (enteredOf t piece) e)
   unfolding behindOf once
