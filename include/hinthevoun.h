@@ -200,6 +200,33 @@ uint32_t hinth_to_i16(const uint8_t *tags, size_t n_tags, const uint32_t *points
                       size_t old_tag_room, uint32_t *old_points, size_t old_point_room, uint64_t *out, size_t out_len);
 
 /*
+ * The profile for lay-up sheets: a test of a scene before it is flattened. Layout, scene and prefixes are those of
+ * hinth_flatten, and are only read. It reads what hinth_flatten reads for the 256 * n_wg tags, as if every path had a box,
+ * and draws nothing. The result is 0 where the scene passes. Else it is, wherever among the tags it arises first,
+ *
+ *   1, 2, 3  as hinth_flatten's reads give them, those for the widths and neighbours of strokes too; 9 is not told
+ *
+ * or else, of the first tag that breaks a rule, the first rule that it breaks:
+ *
+ *   70  a segment or a path tag has a stroke style
+ *   71  a segment or a path tag has a style with the even-odd bit
+ *   72  a segment's points are not f32
+ *   73  a segment's transform is not, word for word, that of the first segment; or its second or third number is not zero
+ *   74  a tag with no segment has an end bit; a segment with an end bit does not end on its subpath's first point, compared
+ *       as numbers; or a segment is the last of the tags and has no end bit
+ *   75  4,096 segments stand before a segment
+ *
+ * out[0] is the tag at a refusal, else 0; out[1] and out[2] are how many segments and subpaths passed, 0 at a refusal. If
+ * out_len is under 3 none is written. Nothing else of out is ever written.
+ *
+ * Where a scene passes with the prefixes of a fresh hinth_scan, and hinth_flatten accepts it with these, in the lines of
+ * each subpath every point is a start exactly as often as an end; each segment belongs to one subpath.
+ */
+uint32_t hinth_profile(uint32_t n_wg, uint32_t tag_base, uint32_t data_base, uint32_t transform_base, uint32_t style_base,
+                       const uint32_t *scene, size_t scene_words, const uint32_t *prefixes, size_t prefix_words,
+                       uint64_t *out, size_t out_len);
+
+/*
  * Cuts for the knife table: HP-GL files. A file is the three bytes `IN;`, then chains, none or more: a `PU` to the start of
  * the chain and one `PD` or more, each to the end of a line, as in `IN;PU0,2;PD-5,0;PD1,1;`. Numbers are decimal,
  * without a leading zero; zero has no sign. There is no space and no line end anywhere. The old table takes numbers from

@@ -10,6 +10,7 @@ mod half;
 mod interface;
 mod mender;
 mod pattern;
+mod profile;
 mod random;
 mod report;
 mod roots;
@@ -69,6 +70,7 @@ fn checks(extent: Extent, only: &str) -> ExitCode {
     checker::run(&mut report, extent);
     sheets::run(&mut report, extent);
     pattern::run(&mut report, extent);
+    profile::run(&mut report, extent);
     cuts::run(&mut report, extent);
     svg::run(&mut report, extent);
     mender::run(&mut report, extent);

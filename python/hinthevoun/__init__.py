@@ -3,6 +3,7 @@
 The functions are those of include/hinthevoun.h, one for one:
 
     scan, flatten                                   from tags, points, transforms and styles to lines and boxes
+    profile                                         whether a scene keeps to the profile for lay-up sheets
     check                                           whether a list of lines is sound
     to_f32, to_i16                                  tags and points of an old sheet moved to f32 points, and back
     cut, read_cut                                   a path's lines as HP-GL, and such a file back as lines
@@ -35,10 +36,12 @@ from .maths import acos, asin, atan2, cbrt, cos, half, hypot, sin, sqrt, two_thi
 from .mending import Mended, NotMendable, PathCase, mend, report_of
 from .moving import Moved, NotMoved, to_f32, to_i16
 from .pattern import NotDrawn, Pen, cubic, end, line, move, quad
+from .profiling import NotPassed, Passed, profile
 from .refusals import Refusal
 
 __version__ = "0.1.0"
 __all__ = ["EMPTY_BOX", "Layout", "Mended", "Moved", "NoLibrary", "NotChecked", "NotCut", "NotDrawn", "NotImported",
-           "NotMendable", "NotMoved", "PathCase", "Pen", "Refusal", "Sheet", "Table", "Verdict", "Wrong", "acos", "asin", "atan2",
-           "cbrt", "check", "cos", "cubic", "cut", "empty_boxes", "end", "flatten", "half", "hypot", "import_path", "line", "mend",
-           "move", "quad", "read_cut", "report_of", "scan", "sin", "sqrt", "to_f32", "to_i16", "two_thirds"]
+           "NotMendable", "NotMoved", "NotPassed", "Passed", "PathCase", "Pen", "Refusal", "Sheet", "Table", "Verdict",
+           "Wrong", "acos", "asin", "atan2", "cbrt", "check", "cos", "cubic", "cut", "empty_boxes", "end", "flatten", "half",
+           "hypot", "import_path", "line", "mend", "move", "profile", "quad", "read_cut", "report_of", "scan", "sin", "sqrt",
+           "to_f32", "to_i16", "two_thirds"]

@@ -17,6 +17,7 @@ COMMANDS = {
     "draw": "a picture of a list or a sheet, or of one laid over another",
     "compare": "a page that lays two folders of drawings over each other, worst first",
     "info": "what a sheet holds",
+    "profile": "whether a sheet keeps to the profile for lay-up sheets",
     "check": "whether a list of lines is sound, of this shop or another",
     "convert": "a sheet of i16 points moved to f32 points, or back",
     "cut": "the lines of one path as HP-GL, for the knife table",
@@ -37,6 +38,7 @@ Examples:
   hinth draw old.lines new.lines -o both.svg            lay one list over another
   hinth compare old/ new/ -o report.html                all drawings of two folders, worst first
   hinth info samples/socket.sheet                       tags, subpaths, styles, transforms, size
+  hinth profile new.sheet                               may it go to the knife table's lay-up
   hinth check socket.lines                              no bad number, every point a start as often as an end
   hinth convert --to f32 old.sheet -o new.sheet         an old sheet moved to f32 points, with the same lines
   hinth cut socket.lines --path 0 -o brim.hpgl          a path as HP-GL; `hinth draw` draws such files too

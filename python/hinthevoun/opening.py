@@ -25,6 +25,7 @@ _LENT: List[Any] = [_LIST, _SIZE]
 _CALLS: Dict[str, List[Any]] = {
     "hinth_scan": [*_LENT, _WORD, *_LENT, *_LENT],
     "hinth_flatten": [*[_WORD] * 5, *_LENT, *_LENT, *_LENT, *_LENT, *_LENT],
+    "hinth_profile": [*[_WORD] * 5, *_LENT, *_LENT, *_LENT],
     "hinth_check": [*_LENT, *_LENT],
     **{name: _LENT * 5 for name in ("hinth_to_f32", "hinth_to_i16")},
     **{f"hinth_{name}": [*_LENT, *[_FLOAT] * floats, *_LENT, *_LENT]

@@ -95,6 +95,44 @@ pub fn check(list: &[u32]) -> (u32, [u64; 2]) {
     (number, out)
 }
 
+unsafe extern "C" {
+    fn hinth_profile(
+        n_wg: u32,
+        tag_base: u32,
+        data_base: u32,
+        transform_base: u32,
+        style_base: u32,
+        scene: *const u32,
+        scene_words: usize,
+        prefixes: *const u32,
+        prefix_words: usize,
+        out: *mut u64,
+        out_len: usize,
+    ) -> u32;
+}
+
+/// The refusal's number or 0; the tag that it tells, and how many segments and subpaths passed.
+pub fn profile(layout: Layout, scene: &[u32], prefixes: &[u32]) -> (u32, [u64; 3]) {
+    let mut out = [0; 3];
+    // SAFETY: as in `scan`.
+    let number = unsafe {
+        hinth_profile(
+            layout.n_wg,
+            layout.tag_base,
+            layout.data_base,
+            layout.transform_base,
+            layout.style_base,
+            scene.as_ptr(),
+            scene.len(),
+            prefixes.as_ptr(),
+            prefixes.len(),
+            out.as_mut_ptr(),
+            out.len(),
+        )
+    };
+    (number, out)
+}
+
 /// What both ways of moving a sheet are.
 type Move =
     unsafe extern "C" fn(*const u8, usize, *const u32, usize, *mut u8, usize, *mut u32, usize, *mut u64, usize) -> u32;

@@ -26,12 +26,14 @@ mod cut;
 mod ffi;
 mod mend;
 pub mod pattern;
+mod profile;
 mod sheets;
 mod svg;
 
 pub use check::{CheckRefusal, Verdict, check};
 pub use cut::{CutRefusal, ReadRefusal, Table, cut, read_cut};
 pub use mend::{Mend, MendRefusal, PathCase, mend, report_of};
+pub use profile::{Passed, ProfileRefusal, Rule, profile};
 pub use sheets::{MoveRefusal, Moved, to_f32, to_i16};
 pub use svg::ImportRefusal;
 

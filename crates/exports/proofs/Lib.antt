@@ -1,3 +1,4 @@
 pub mod Converted
 pub mod Pens
 pub mod Imports
+pub mod Profiled

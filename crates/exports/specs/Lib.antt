@@ -1,6 +1,7 @@
 pub mod Call
 pub mod Scan
 pub mod Convert
+pub mod Profile
 pub mod Check
 pub mod Pen
 pub mod Import

@@ -30,6 +30,9 @@ use Rattle.exports.specs.Check.{twoOf, Checked}
 use Rattle.sheets.specs.Moving.{toF32, toI16}
 use Rattle.sheets.specs.Written.{stored}
 use Rattle.exports.specs.Convert.{moved, movedOf}
+use Rattle.profile.specs.Reads.{Given}
+use Rattle.profile.specs.Verdict.{profileOf}
+use Rattle.exports.specs.Profile.{profiled, profiledOf}
 use Rattle.exports.specs.Pen.{spotOf, penned, pennedBy}
 use Rattle.exports.specs.Import.{imported, importedBy}
 
@@ -85,6 +88,9 @@ hinth-to-f32-only tags points ts ws os r s p q = let e = p ∙ sym q in λ i. (e
 pub hinth-to-i16-only : (tags points ts ws os : List ℕ)
     → Only (λ (r : ℕ × (List ℕ × (List ℕ × List ℕ))). moved (r .0) (r .1 .0) (r .1 .1 .0) (r .1 .1 .1) ≡ movedOf (stored (toI16 tags points (length ts) (length ws)) ts ws) os)
 hinth-to-i16-only tags points ts ws os r s p q = let e = p ∙ sym q in λ i. (e i .number, (e i .tags, (e i .points, e i .out)))
+
+pub hinth-profile-only : (g : Given) (os : List ℕ) → Only (λ (r : ℕ × List ℕ). profiled (r .0) (r .1) ≡ profiledOf (profileOf g) os)
+hinth-profile-only g os r s p q = let e = p ∙ sym q in λ i. (e i .number, e i .out)
 
 -- a command of the pen, with the four that it may write
 abbrev pub Lent : Type 0

@@ -8,7 +8,7 @@ use sheets::sheet::to_f32;
 use sheets::sheet::to_i16;
 
 // Nothing is written where there is no room for all three.
-fn put_three(out: &mut [u64], first: u64, second: u64, third: u64)
+pub(crate) fn put_three(out: &mut [u64], first: u64, second: u64, third: u64)
     ensures { λ _. ⌜ now (out .exit) ≡ threeOf first second third (now (out .entry)) ⌝ }
 {
     if 2 < out.len() {

@@ -1,5 +1,5 @@
-// The C interface: each function is one of `maths`, `scene`, `flatten`, `pattern`, `svg`, `sheets`, `checker`, `mender` or `hpgl` under a
-// name that C and Rust can link. See include/hinthevoun.h.
+// The C interface: each function is one of `maths`, `scene`, `flatten`, `pattern`, `svg`, `sheets`, `profile`, `checker`, `mender` or `hpgl`
+// under a name that C and Rust can link. See include/hinthevoun.h.
 ghost use mathlib.Core.Path.{_≡_};
 ghost use Rattle.maths.specs.Numbers.{halfOf};
 ghost use Rattle.maths.specs.Roots.{sqrtOf, hypotOf, cbrtOf, twoThirdsOf};
@@ -12,6 +12,7 @@ pub mod cut;
 pub mod import;
 pub mod mending;
 pub mod pen;
+pub mod profiling;
 pub mod scan;
 
 #[no_mangle]

@@ -3,11 +3,12 @@ use Prim.Native.Nat.{ℕ, zero, suc}
 use mathlib.Core.Path.{_≡_, refl, _∙_, sym, ap}
 use mathlib.Core.List.{List}
 use Rattle.laws.specs.Only.{Only, determined}
-use Rattle.refusals.specs.Refusals.{numberOf, endOf}
+use Rattle.refusals.specs.Refusals.{numberOf, endOf, Read, found, refused}
 use Rattle.refusals.specs.Laws.{named, number-names, number-some}
 use Rattle.refusals.specs.declared.Refusal.{Refusal}
 use Rattle.flatten.specs.Boxes.{freshBox, changedOf, changedAt}
 use Rattle.flatten.specs.Call.{toldOf, reportOf, Outcome, outcome, callOf, ownedOf}
+use Rattle.flatten.specs.Tag.{headRead, headAt, shapeRead, isStroke, shapeAt}
 use Rattle.flatten.specs.declared.boxes.PathBox.{PathBox}
 use Rattle.flatten.specs.declared.boxes.Change.{Change}
 use Rattle.flatten.specs.declared.call.Layout.{Layout}
@@ -15,6 +16,12 @@ use Rattle.flatten.specs.declared.call.Answer.{Answer}
 use Rattle.flatten.specs.declared.call.Answer.the-variants.{Lines, Refused}
 use Rattle.flatten.specs.declared.call.Told.{Told}
 use Rattle.flatten.specs.declared.call.Owned.{Owned}
+use Rattle.flatten.specs.declared.tag.Head.{Head}
+use Rattle.flatten.specs.declared.tag.HeadRead.{HeadRead}
+use Rattle.flatten.specs.declared.tag.HeadRead.the-variants as head
+use Rattle.flatten.specs.declared.tag.ShapeRead.{ShapeRead}
+use Rattle.flatten.specs.declared.tag.ShapeRead.the-variants as shape
+use Rattle.segment.specs.declared.Shape.{Shape}
 
 pub fresh-only : Only (λ r. r ≡ freshBox)
 fresh-only = determined freshBox
@@ -64,3 +71,29 @@ pub flatten-owned-only : (layout : Layout) (scene prefixes : List ℕ) (ps : Lis
 flatten-owned-only layout scene prefixes ps n ws r s p q =
     let e = p ∙ sym q in
     let a = one-answer (r .0 .answer) (s .0 .answer) (ap (λ (o : Outcome). o .answer) e) in λ i. (record { answer = a i; boxes = e i .boxes }, e i .lines)
+
+-- ---- the reads of a tag
+
+headBack : Read Head → HeadRead
+headBack (found h) = head.Found h
+headBack (refused why) = head.Refused why
+
+head-back : (r : HeadRead) → headBack (headRead r) ≡ r
+unfolding headBack
+head-back (head.Found h) = refl
+head-back (head.Refused why) = refl
+
+pub read-head-only : (layout : Layout) (scene prefixes : List ℕ) (n ix : ℕ) → Only (λ (r : HeadRead). headRead r ≡ headAt layout scene prefixes n ix)
+read-head-only layout scene prefixes n ix r s p q = sym (head-back r) ∙ ap headBack (p ∙ sym q) ∙ head-back s
+
+shapeBack : Read Shape → ShapeRead
+shapeBack (found s) = shape.Found s
+shapeBack (refused why) = shape.Refused why
+
+shape-back : (r : ShapeRead) → shapeBack (shapeRead r) ≡ r
+unfolding shapeBack
+shape-back (shape.Found s) = refl
+shape-back (shape.Refused why) = refl
+
+pub read-shape-only : (layout : Layout) (scene prefixes : List ℕ) (ix : ℕ) (h : Head) → Only (λ (r : ShapeRead). shapeRead r ≡ shapeAt (isStroke h) layout scene prefixes ix h)
+read-shape-only layout scene prefixes ix h r s p q = sym (shape-back r) ∙ ap shapeBack (p ∙ sym q) ∙ shape-back s

@@ -2,4 +2,4 @@
 pub mod boxes;
 pub mod call;
 mod step;
-mod tag;
+pub mod tag;

@@ -57,10 +57,10 @@ spots-back (p ∷ ps) (x ∷ y ∷ X) e =
     rw (a, b) (ap (λ (qs : List Spot). p ∷ qs) (spots-back ps X more))
 
 -- words that were found lie inside
-inside : (n d : ℕ) (scene ws : List ℕ) → take n (drop d scene) ≡ ws → length ws ≡ n → 0 < n → d + n ≤ length scene
+pub inside : (n d : ℕ) (scene ws : List ℕ) → take n (drop d scene) ≡ ws → length ws ≡ n → 0 < n → d + n ≤ length scene
 inside n d scene ws e l h = omega (arith, ap length e, length-take n (drop d scene), length-drop d scene)
 
-reach : (g : Segment) (offset : ℕ) (scene : List ℕ) (base : ℕ) → offset + length (wordsOf (record { x = 0; y = 0 } ∷ spots g)) < 2 ^ 31
+pub reach : (g : Segment) (offset : ℕ) (scene : List ℕ) (base : ℕ) → offset + length (wordsOf (record { x = 0; y = 0 } ∷ spots g)) < 2 ^ 31
     → base + offset + length (wordsOf (record { x = 0; y = 0 } ∷ spots g)) ≤ length scene → reaches (length (spots g)) true offset scene base ≡ true
 unfolding reaches pointCount pointWords spots wordsOf
 reach (line p) offset scene base h k = rw (lt-ltb (offset + 2) (2 ^ 32) (omega arith), le-leb (base + offset + 4) (length scene) k)

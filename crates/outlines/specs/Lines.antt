@@ -31,7 +31,7 @@ use Rattle.outlines.specs.Walk.{tagByte, Drawn, Walk, Walks}
 use Rattle.outlines.specs.Decode.{byte-is, length-tags, walked}
 
 -- a word that was found stands in the scene
-word-there : (n d j : ℕ) (scene ws : List ℕ) → take n (drop d scene) ≡ ws → j < n → getD scene (d + j) 0 ≡ getD ws j 0
+pub word-there : (n d j : ℕ) (scene ws : List ℕ) → take n (drop d scene) ≡ ws → j < n → getD scene (d + j) 0 ≡ getD ws j 0
 word-there n d j scene ws e l = sym (getD-drop d scene j 0) ∙ sym (getD-take n (drop d scene) j 0 l) ∙ ap (λ (xs : List ℕ). getD xs j 0) e
 
 -- ---- a tag that draws a segment
