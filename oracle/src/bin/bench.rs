@@ -12,7 +12,7 @@ use vello_encoding::{BumpAllocators, ConfigUniform, LineSoup, PathBbox, PathMono
 /// How long the rounds of one sheet may take, and the least number of them.
 const PATIENCE: Duration = Duration::from_secs(4);
 const LEAST_ROUNDS: usize = 11;
-const GROWTH: [usize; 4] = [1_000, 10_000, 100_000, 1_000_000];
+const GROWTH: [usize; 5] = [1_000, 10_000, 100_000, 1_000_000, 10_000_000];
 /// One line in so many may be more or fewer, since std's mathematics is not ours.
 const LEEWAY: u32 = 1_000;
 /// A middle round that takes so much longer than the least one tells of a machine that does not let anything be timed.
