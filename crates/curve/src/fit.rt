@@ -162,9 +162,9 @@ fn n_frac(robust: EspcRobust, k0: f32, k1: f32, dist: f32) -> f32
 fn is_straight(bend: f32, length: f32) -> bool
     ensures { λ r. ⌜ r ≡ isStraight bend length ⌝ }
 {
-    if maths::abs(bend) <= 0.000003814697265625 {
+    if maths::abs(bend) <= 0.000244140625 {
         if 0.0 <= length {
-            return length <= 1048576.0;
+            return length <= 16384.0;
         }
     }
     false

@@ -2,28 +2,23 @@
 use mathlib.Core.Path.{_≡_, refl, sym, ap, _∙_, subst}
 use mathlib.Core.Logic.{inl, inr}
 use mathlib.Core.Bool.{Bool, true, false, not}
-use Prim.Native.Nat.{ℕ, zero, suc, _+_, _*_, _/_, _^_, _≤_, _<_, zero-le}
-use native.Mathlib.Nat.{le-trans, le-of-eq, le-of-lt, lt-of-lt-of-le, lt-of-le-of-lt, lt-of-not-le, lt-irrefl, le-of-suc-le-suc, mul-le-mul-right, zero-mul, one-mul, mul-one, div-one, pow-lt-pow-left}
+use Prim.Native.Nat.{ℕ, zero, suc, _+_, _*_, _/_, _^_, _≤_, _<_}
+use native.Mathlib.Nat.{le-trans, le-of-eq, le-of-lt, lt-of-lt-of-le, lt-of-le-of-lt, lt-of-not-le, lt-irrefl, le-of-suc-le-suc, mul-le-mul-right, one-mul, mul-one, div-one, pow-lt-pow-left}
 use native.Mathlib.Decide.{decLt}
 use native.Mathlib.Omega.{arith}
 use lib.IntN.{ℤ}
 use lib.Dec.{T, lit<}
 use lib.Pow.{pow-pos, pow-lt}
 use lib.Ieee.{Float, nan, inf, fin, binary32, up, down, units}
-use lib.Ieee.Exact.{HasValue, units-val}
+use lib.Ieee.Exact.{units-val}
 use lib.Ieee.Fits.{down-pos}
 use lib.Ieee.Nearest.{div-mono}
 use Rattle.laws.specs.Compare.{underZero}
+use Rattle.laws.specs.Size.{AtMost, of-value, zero-at-most}
 use Rattle.roots.specs.Root.{mag, sqrtOf}
 use Rattle.roots.specs.Nearest.{Wins, Nearest}
 use Rattle.roots.specs.Laws.{mul-pow}
 use Rattle.roots.specs.Rules.{sqrt-nearest, sqrt-zero}
-
--- x is a finite number, and its size is at most n / d
-abbrev pub AtMost : ℕ → ℕ → Float → Type 0
-AtMost n d nan = ⊥
-AtMost n d (inf s) = ⊥
-AtMost n d (fin s m e) = m * up e * d ≤ n * down e
 
 at-most : {x y : ℕ} (q : ℕ) → Wins x y q → x ≤ y
 at-most q (inl l) = le-of-lt l
@@ -45,11 +40,6 @@ nearest-at-most s k a c v K h N = elim (decLt (2 ^ c) (N .q * 2 ^ N .d)) [
   | no n ↦ le-of-suc-le-suc (lt-of-not-le n)
 ]
 
-of-value : (v : Float) (s : Bool) (a n c : ℕ) → HasValue v s a c → a ≤ n → AtMost n c v
-of-value nan s a n c h l = absurd h
-of-value (inf t) s a n c h l = absurd h
-of-value (fin t m e) s a n c h l = le-trans (le-of-eq (h .1)) (mul-le-mul-right (down e) l)
-
 above-zero : (k : ℕ) → k ≡ 2 → k ≡ 0 → ⊥
 above-zero k e z = omega arith
 
@@ -61,7 +51,7 @@ mag-at-most m e M h = le-trans (div-mono (m * up e * 2 ^ 149) (down e) M 1 (down
 pub sqrt-at-most : (x : Float) (M c : ℕ) → T (not (underZero x)) → AtMost M (2 ^ 149) x → M * 2 ^ 149 ≤ (2 ^ c) ^ 2 → c < 277 → AtMost (2 ^ c) (2 ^ 149) (sqrtOf x)
 sqrt-at-most nan M c u h l k = absurd h
 sqrt-at-most (inf s) M c u h l k = absurd h
-sqrt-at-most (fin s zero e) M c u h l k = subst (λ (v : Float). AtMost (2 ^ c) (2 ^ 149) v) (sym (sqrt-zero s e)) (le-trans (le-of-eq (ap (λ (z : ℕ). z * 2 ^ 149) (zero-mul (up e)) ∙ zero-mul (2 ^ 149))) zero-le)
+sqrt-at-most (fin s zero e) M c u h l k = subst (λ (v : Float). AtMost (2 ^ c) (2 ^ 149) v) (sym (sqrt-zero s e)) (zero-at-most s e (2 ^ c) (2 ^ 149))
 sqrt-at-most (fin true (suc m) e) M c u h l k = absurd u
 sqrt-at-most (fin false (suc m) e) M c u h l k =
     let N = sqrt-nearest m e in

@@ -127,10 +127,6 @@ atanNear t =
     let d = f32 0x3b2bda54 ⊗ z ⊕ f32 0xbc77eedb in
     (a ⊕ b ⊗ w ⊕ (c ⊕ d ⊗ w) ⊗ (w ⊗ w)) ⊗ (z ⊗ t) ⊕ t
 
--- the same of 0 to 1, where t below 2 ^ -13 is its own
-unfoldable pub atanFlat : Float → Float
-atanFlat t = cond (lt t (f32 0x39000000)) t (atanNear t)
-
 -- y / a, which is 1 where they are equal, infinities too
 unfoldable pub slopeOf : Float → Float → Float
 slopeOf y a = cond (eq y a) one (y ⊘ a)
@@ -139,7 +135,7 @@ slopeOf y a = cond (eq y a) one (y ⊘ a)
 unfoldable pub angleOf : Float → Float → Float
 angleOf y x =
     let a = absOf x in
-    let p = atanFlat (slopeOf y a) in
+    let p = atanNear (slopeOf y a) in
     cond (eq y zero) (cond (signOf x) pi zero)
     (cond (lt a y) (halfPi ⊖ atanNear (x ⊘ y)) (cond (signOf x) (pi ⊖ p) p))
 

@@ -5,14 +5,14 @@ use Prim.Native.Nat.{ℕ, _%_}
 use lib.IntN.{pos, negsuc}
 use lib.Dec.{T, leb, eqb}
 use lib.Ieee.{Float, nan, inf, fin, binary32, ofBits, fits, isNan, add, sub, mul, neg, lt, le, eq}
-use lib.Ieee.Fits.{nan-fits, cond-fits, add-fits, sub-fits, div-fits}
+use lib.Ieee.Fits.{nan-fits, cond-fits, add-fits, sub-fits}
 use lib.Ieee.Bits.{is-true, is-false, ofBits-fits}
 use lib.Ieee.Scale.{finite}
 use Rattle.laws.specs.Only.{Only, determined}
 use Rattle.numbers.specs.Words.{signOf, signed, absOf}
 use Rattle.numbers.specs.Order.{le-number-right}
 use Rattle.roots.specs.Root.{sqrtOf}
-use Rattle.trig.specs.Trig.{Within, zero, minusZero, half, one, minusOne, halfPi, minusHalfPi, pi, minusPi, infinity, boundedOf, sinNear, cosNear, reducedOf, curveOf, waveOf, sinOf, cosOf, atanNear, atanFlat, slopeOf, angleOf, atan2Of, asinNear, acosNear, arcSineOf, arcCosineOf, asinOf, acosOf}
+use Rattle.trig.specs.Trig.{Within, zero, minusZero, half, one, minusOne, halfPi, minusHalfPi, pi, minusPi, infinity, boundedOf, sinNear, cosNear, reducedOf, curveOf, waveOf, sinOf, cosOf, atanNear, angleOf, atan2Of, asinNear, acosNear, arcSineOf, arcCosineOf, asinOf, acosOf}
 use Rattle.trig.specs.Signs.{sign-neg, abs-neg, nan-neg, signed-not, lt→le, neg-lt, neg-le, lt-not-le, sign-above, within-number, bounded-within, signed-within, under-zero, signed-fits, bounded-fits}
 
 -- ---- an answer is determined
@@ -256,19 +256,11 @@ pub cos-fits : (x : Float) → T (fits binary32 (cosOf x))
 unfolding cosOf
 cos-fits x = cond-fits binary32 (lt (absOf x) infinity) _ nan (wave-fits _ _) (nan-fits binary32)
 
-slope-fits : (y a : Float) → T (fits binary32 (slopeOf y a))
-unfolding slopeOf
-slope-fits y a = cond-fits binary32 (eq y a) one _ (ofBits-fits binary32 0x3f800000) (div-fits binary32 y a)
-
-flat-fits : (t : Float) → T (fits binary32 t) → T (fits binary32 (atanFlat t))
-unfolding atanFlat atanNear
-flat-fits t h = cond-fits binary32 (lt t (ofBits binary32 0x39000000)) t _ h (add-fits binary32 _ t)
-
 angle-fits : (y x : Float) → T (fits binary32 (angleOf y x))
-unfolding angleOf
+unfolding angleOf atanNear
 angle-fits y x =
     cond-fits binary32 (eq y zero) _ _ (cond-fits binary32 (signOf x) pi zero (ofBits-fits binary32 0x40490fdb) (ofBits-fits binary32 0))
-    (cond-fits binary32 (lt (absOf x) y) _ _ (sub-fits binary32 halfPi _) (cond-fits binary32 (signOf x) _ _ (sub-fits binary32 pi _) (flat-fits (slopeOf y (absOf x)) (slope-fits y (absOf x)))))
+    (cond-fits binary32 (lt (absOf x) y) _ _ (sub-fits binary32 halfPi _) (cond-fits binary32 (signOf x) _ _ (sub-fits binary32 pi _) (add-fits binary32 _ _)))
 
 from-zero-fits : (n : ℕ) (v : Float) → T (fits binary32 v) → T (fits binary32 (boundedOf zero (ofBits binary32 n) v))
 from-zero-fits n v h = bounded-fits zero (ofBits binary32 n) v (ofBits-fits binary32 0) (ofBits-fits binary32 n) h

@@ -5,7 +5,7 @@ use Prim.Native.Nat.{ℕ}
 use lib.Ieee.{Float, add, binary32, div, eq, isNan, le, lt, mul, neg, ofBits, ofInt, sub, toBits, toUnsigned}
 use Rattle.numbers.specs.Words.{absOf, signOf, signed}
 use Rattle.roots.specs.Root.{sqrtOf}
-use Rattle.trig.specs.Trig.{acosNear, acosOf, angleOf, arcCosineOf, arcSineOf, asinNear, asinOf, atan2Of, atanNear, atanFlat, boundedOf, cosNear, cosOf, curveOf, sinNear, sinOf, slopeOf, reducedOf, quartersOf, waveOf, twoOverPi, unitsOf, partedOf, largeOf, farOf}
+use Rattle.trig.specs.Trig.{acosNear, acosOf, angleOf, arcCosineOf, arcSineOf, asinNear, asinOf, atan2Of, atanNear, boundedOf, cosNear, cosOf, curveOf, sinNear, sinOf, slopeOf, reducedOf, quartersOf, waveOf, twoOverPi, unitsOf, partedOf, largeOf, farOf}
 
 -- what a function makes of each point
 abbrev table : (Float → Float) → List ℕ → List ℕ
@@ -37,5 +37,5 @@ abbrev pairs : List (ℕ × ℕ)
 pairs = (0x00000000, 0x3f800000) ∷ (0x80000000, 0x3f800000) ∷ (0x00000000, 0xbf800000) ∷ (0x80000000, 0xbf800000) ∷ (0x00000000, 0x00000000) ∷ (0x80000000, 0x00000000) ∷ (0x00000000, 0x80000000) ∷ (0x80000000, 0x80000000) ∷ (0x00000000, 0x7f800000) ∷ (0x80000000, 0x7f800000) ∷ (0x00000000, 0xff800000) ∷ (0x80000000, 0xff800000) ∷ (0x3f800000, 0x00000000) ∷ (0xbf800000, 0x00000000) ∷ (0x3f800000, 0x80000000) ∷ (0xbf800000, 0x80000000) ∷ (0x7f800000, 0x00000000) ∷ (0xff800000, 0x00000000) ∷ (0x7f800000, 0x7f800000) ∷ (0xff800000, 0x7f800000) ∷ (0x7f800000, 0xff800000) ∷ (0xff800000, 0xff800000) ∷ (0x7f800000, 0x3f800000) ∷ (0xff800000, 0xbf800000) ∷ (0x3f800000, 0x7f800000) ∷ (0xbf800000, 0x7f800000) ∷ (0x3f800000, 0xff800000) ∷ (0xbf800000, 0xff800000) ∷ (0x7fc00000, 0x3f800000) ∷ (0x3f800000, 0x7fc00000) ∷ (0x7fc00000, 0x00000000) ∷ (0x00000000, 0x7fc00000) ∷ (0x7f800000, 0x7fc00000) ∷ (0x3f800000, 0x3f800000) ∷ (0xbf800000, 0x3f800000) ∷ (0x3f800000, 0xbf800000) ∷ (0xbf800000, 0xbf800000) ∷ (0x00000001, 0x3f800000) ∷ (0x80000001, 0x3f800000) ∷ (0x00000001, 0x7f7fffff) ∷ (0x7f7fffff, 0x00000001) ∷ (0x00000001, 0x00000001) ∷ (0x00000001, 0x80000001) ∷ (0x7f7fffff, 0x7f7fffff) ∷ (0x7f7fffff, 0xff7fffff) ∷ (0x00000001, 0x80800000) ∷ (0x7f7fffff, 0x7f7ffffe) ∷ (0x00800000, 0x7f000000) ∷ (0x3f7fffff, 0x3f800000) ∷ (0x3f800000, 0x3f7fffff) ∷ (0x3f7fffff, 0xbf800000) ∷ (0x40400000, 0x40800000) ∷ (0xc0400000, 0x40800000) ∷ (0x40800000, 0xc0400000) ∷ (0xc0800000, 0xc0400000) ∷ (0x3dcccccd, 0x3f800000) ∷ (0x932128d9, 0x93229adf) ∷ (0x3823cf19, 0xbfd99ecd) ∷ (0x3f725240, 0x3f800000) ∷ (0xbf800000, 0xbf725240) ∷ []
 
 atan2-values : map (λ p. toBits binary32 (atan2Of (ofBits binary32 (p .0)) (ofBits binary32 (p .1)))) pairs ≡ 0x00000000 ∷ 0x80000000 ∷ 0x40490fdb ∷ 0xc0490fdb ∷ 0x00000000 ∷ 0x80000000 ∷ 0x40490fdb ∷ 0xc0490fdb ∷ 0x00000000 ∷ 0x80000000 ∷ 0x40490fdb ∷ 0xc0490fdb ∷ 0x3fc90fdb ∷ 0xbfc90fdb ∷ 0x3fc90fdb ∷ 0xbfc90fdb ∷ 0x3fc90fdb ∷ 0xbfc90fdb ∷ 0x3f490fdb ∷ 0xbf490fdb ∷ 0x4016cbe4 ∷ 0xc016cbe4 ∷ 0x3fc90fdb ∷ 0xbfc90fdb ∷ 0x00000000 ∷ 0x80000000 ∷ 0x40490fdb ∷ 0xc0490fdb ∷ 0x7fc00000 ∷ 0x7fc00000 ∷ 0x7fc00000 ∷ 0x7fc00000 ∷ 0x7fc00000 ∷ 0x3f490fdb ∷ 0xbf490fdb ∷ 0x4016cbe4 ∷ 0xc016cbe4 ∷ 0x00000001 ∷ 0x80000001 ∷ 0x00000000 ∷ 0x3fc90fdb ∷ 0x3f490fdb ∷ 0x4016cbe4 ∷ 0x3f490fdb ∷ 0x4016cbe4 ∷ 0x40490fda ∷ 0x3f490fdc ∷ 0x00000000 ∷ 0x3f490fda ∷ 0x3f490fdc ∷ 0x4016cbe4 ∷ 0x3f24bc7d ∷ 0xbf24bc7d ∷ 0x400db70d ∷ 0xc00db70d ∷ 0x3dcc1f15 ∷ 0xc017150a ∷ 0x40490f7b ∷ 0x3f420960 ∷ 0xc0150a46 ∷ []
-unfolding atan2Of isNan absOf signOf signed angleOf slopeOf atanNear atanFlat boundedOf neg add sub mul div lt le eq ofBits toBits
+unfolding atan2Of isNan absOf signOf signed angleOf slopeOf atanNear boundedOf neg add sub mul div lt le eq ofBits toBits
 atan2-values = refl

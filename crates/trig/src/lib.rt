@@ -3,7 +3,7 @@ ghost use mathlib.Core.Path.{_≡_};
 ghost use mathlib.Core.Bool.{cond};
 ghost use Prim.Native.Nat.{_+_, _-_, _*_, _/_, _%_, _^_, _≤_};
 ghost use lib.Ieee.{nan, lt};
-ghost use Rattle.trig.specs.Trig.{infinity, boundedOf, quartersOf, twoOverPi, unitsOf, partedOf, largeOf, farOf, reducedOf, sinNear, cosNear, waveOf, sinOf, cosOf, atanNear, atanFlat, slopeOf, angleOf, atan2Of, asinNear, acosNear, arcSineOf, arcCosineOf, asinOf, acosOf};
+ghost use Rattle.trig.specs.Trig.{infinity, boundedOf, quartersOf, twoOverPi, unitsOf, partedOf, largeOf, farOf, reducedOf, sinNear, cosNear, waveOf, sinOf, cosOf, atanNear, slopeOf, angleOf, atan2Of, asinNear, acosNear, arcSineOf, arcCosineOf, asinOf, acosOf};
 use numbers::whole::from_u32;
 use numbers::whole::whole_part;
 use numbers::words::abs;
@@ -195,11 +195,16 @@ fn atan_near(t: f32) -> f32
     (a + b * w + (c + d * w) * (w * w)) * (z * t) + t
 }
 
-// The arc tangent of 0 to 1. Below 2^-13 the polynomial's powers may be subnormal, which takes long on some processors, and its sum is t.
+// The same. Of a small number above 0 it is that number, and is told without powers of it, which may be subnormal: these take long on some processors.
 fn atan_flat(t: f32) -> f32
-    ensures { λ r. ⌜ r ≡ atanFlat t ⌝ }
+    ensures { λ r. ⌜ r ≡ atanNear t ⌝ }
 {
-    if t < 0.0001220703125 { t } else { atan_near(t) }
+    if 0.0 < t {
+        if t < 0.00006103515625 {
+            return t;
+        }
+    }
+    atan_near(t)
 }
 
 // y / a, and 1 where they are equal, two infinities too.

@@ -1,20 +1,18 @@
 -- `trig::atan_flat` meets its contract. Assumes nothing.
+use mathlib.Core.Path.{sym, subst}
+use lib.Dec.{T}
 use lib.Ieee.{ofBits}
-use Rattle.trig.specs.Trig.{atanFlat}
 use borrow.Author.Needs.{needs}
+use Rattle.trig.proofs.Flat.{flat}
 use Rattle.trig.proofs.atan_flat.Statement.{statement}
 use Rattle.trig.proofs.atan_flat.Tie as tie
 
-atan-near-requires : tie.Need-atan-near-requires
-atan-near-requires c κs = search needs
-
 returns : tie.Need-returns
-unfolding atanFlat ofBits
-returns c = rw (c .if1 .taken)
+unfolding ofBits
+returns c = sym (flat (c .before .before .args .t) (subst T (sym (c .before .before .good .0 .1)) tt) (subst T (sym (c .before .if1 .taken)) tt) (subst T (sym (c .if2 .taken)) tt))
 
 returns-2 : tie.Need-returns-2
-unfolding atanFlat ofBits
-returns-2 c = rw (c .before .if1 .left, c .atan-near .ensures)
+returns-2 c = c .atan-near .ensures
 
 pub atan-flat-spec : {M : Type 1} → statement M
-atan-flat-spec = tie.close (tie.spec atan-near-requires returns returns-2)
+atan-flat-spec = tie.close (tie.spec returns (λ c κs. tt) returns-2)
