@@ -285,3 +285,17 @@ impl Figures {
         draft.encoded()
     }
 }
+
+/// The sheets that are measured, as docs/SPEED.md names them.
+pub const KINDS: [(&str, Figures); 7] = [
+    ("fills of lines", Figures::FilledLines),
+    ("fills of quads", Figures::FilledQuads),
+    ("fills of cubics", Figures::FilledCubics),
+    ("strokes of lines, bevel joins, butt caps", Figures::BevelLines),
+    ("strokes of curves, miter joins, butt caps", Figures::MiterCurves),
+    ("strokes, round joins and caps", Figures::RoundStrokes),
+    ("mixed sheet", Figures::Pieces),
+];
+
+/// How many lines each of them has, about: few enough for a cache to hold.
+pub const LINES: usize = 10_000;

@@ -1,4 +1,5 @@
 pub mod Fit
+pub mod Straight
 pub mod Curve
 pub mod Walks
 pub mod Chain

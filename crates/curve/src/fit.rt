@@ -1,6 +1,9 @@
 // One range of a cubic: where it ends, how far off a fitted spiral is, and the points along that spiral.
 ghost use mathlib.Core.Path.{_≡_};
 ghost use Rattle.curve.specs.Fit.{isShort, firstTip, tipAt, paramsOf, multiplierOf, integrandOf, timesRoot, lowDistOf, normalOf, robustOf, nFracOf, fitOf, spreadOf, placeOf};
+ghost use Rattle.curve.specs.Straight.{isStraight};
+ghost use Rattle.laws.specs.Binary32.{_⊗_, whole};
+ghost use Rattle.maths.specs.Numbers.{ceilOf, clampOf};
 use drawing::cubic::eval_cubic_and_deriv;
 use spiral::euler::CubicParams;
 use spiral::euler::EulerParams;
@@ -155,7 +158,41 @@ fn n_frac(robust: EspcRobust, k0: f32, k1: f32, dist: f32) -> f32
     }
 }
 
-// The spiral of the range from p0 to p1. The number of lines may be a NaN.
+// Whether an arc is one line, told without a root: see specs/Straight.antt.
+fn is_straight(bend: f32, length: f32) -> bool
+    ensures { λ r. ⌜ r ≡ isStraight bend length ⌝ }
+{
+    if maths::abs(bend) <= 0.000244140625 {
+        if 0.0 <= length {
+            return length <= 16384.0;
+        }
+    }
+    false
+}
+
+// The number of lines, which may be a NaN. Most straight segments are one line, and no root is taken to find that.
+fn line_count(
+    robust: EspcRobust,
+    k0: f32,
+    k1: f32,
+    dist: f32,
+    scale: f32,
+    chord: f32,
+    ch: f32,
+) -> f32
+    ensures { λ r. ⌜ r ≡ clampOf (ceilOf (nFracOf robust k0 k1 dist ⊗ multiplierOf scale chord ch)) (whole 1) (whole 100) ⌝ }
+{
+    if let EspcRobust::LowK1 = robust {
+        let k = k0 + 0.5 * k1;
+        if is_straight(k * (k * dist + 1.0), scale * chord / (ch * TOL)) {
+            return 1.0;
+        }
+    }
+    let scaled = n_frac(robust, k0, k1, dist) * scale_multiplier(scale, chord, ch);
+    maths::clamp(maths::ceil(scaled), 1.0, 100.0)
+}
+
+// The spiral of the range from p0 to p1.
 pub fn fit_range(offset: f32, scale: f32, p0: Vec2, p1: Vec2, params: CubicParams) -> Fit
     ensures { λ r. ⌜ r ≡ fitOf offset scale p0 p1 params ⌝ }
 {
@@ -165,8 +202,7 @@ pub fn fit_range(offset: f32, scale: f32, p0: Vec2, p1: Vec2, params: CubicParam
     let normalized = offset / params.chord_len;
     let dist = normalized * euler.ch;
     let robust = robust_of(k0, k1, dist);
-    let scaled = n_frac(robust, k0, k1, dist) * scale_multiplier(scale, params.chord_len, euler.ch);
-    let n = maths::clamp(maths::ceil(scaled), 1.0, 100.0);
+    let n = line_count(robust, k0, k1, dist, scale, params.chord_len, euler.ch);
     let seg = EulerSeg::from_params(p0, p1, euler);
     Fit {
         seg,

@@ -58,10 +58,12 @@ impl IntBbox {
     pub fn add_pt(self, pt: Vec2) -> IntBbox
         ensures { λ r. ⌜ r ≡ boxWith self pt ⌝ }
     {
-        let x0 = lower(self.x0, maths::floor_i32(pt.x));
-        let x1 = higher(self.x1, maths::ceil_i32(pt.x));
-        let y0 = lower(self.y0, maths::floor_i32(pt.y));
-        let y1 = higher(self.y1, maths::ceil_i32(pt.y));
+        let x = maths::span(pt.x);
+        let y = maths::span(pt.y);
+        let x0 = lower(self.x0, x[0]);
+        let x1 = higher(self.x1, x[1]);
+        let y0 = lower(self.y0, y[0]);
+        let y1 = higher(self.y1, y[1]);
         IntBbox { x0, y0, x1, y1 }
     }
 }

@@ -3,6 +3,7 @@ pub mod Only
 pub mod Nan
 pub mod Same
 pub mod Own
+pub mod Size
 pub mod NotFinite
 pub mod Dyadic
 pub mod Neg

@@ -8,6 +8,7 @@ pub use numbers::whole::ceil_i32;
 pub use numbers::whole::floor;
 pub use numbers::whole::floor_i32;
 pub use numbers::whole::from_u32;
+pub use numbers::whole::span;
 pub use numbers::whole::to_i32;
 pub use numbers::whole::to_u32;
 pub use numbers::words::abs;

@@ -5,5 +5,6 @@ pub mod Order
 pub mod SelectLaws
 pub mod Whole
 pub mod WholeLaws
+pub mod CountLaws
 pub mod Only
 pub mod Examples

@@ -8,7 +8,7 @@ use Rattle.laws.specs.Only.{Only, determined}
 use Rattle.numbers.specs.declared.whole.Part.{Part}
 use Rattle.numbers.specs.Words.{signOf, signed, absOf, copysignOf, halfOf}
 use Rattle.numbers.specs.Select.{minOf, maxOf, clampOf}
-use Rattle.numbers.specs.Whole.{floorOf, ceilOf, partOf}
+use Rattle.numbers.specs.Whole.{floorOf, ceilOf, spanOf, partOf}
 
 pub float-of-only : (w : ℕ) → Only (λ (r : Float). r ≡ ofBits binary32 w)
 float-of-only w = determined (ofBits binary32 w)
@@ -54,6 +54,9 @@ floor-i32-only x = determined (toSigned 31 (floorOf x))
 
 pub ceil-i32-only : (x : Float) → Only (λ (r : ℤ). r ≡ toSigned 31 (ceilOf x))
 ceil-i32-only x = determined (toSigned 31 (ceilOf x))
+
+pub span-only : (x : Float) → Only (λ r. r ≡ spanOf x)
+span-only x = determined (spanOf x)
 
 pub to-i32-only : (x : Float) → Only (λ (r : ℤ). r ≡ toSigned 31 x)
 to-i32-only x = determined (toSigned 31 x)

@@ -1,8 +1,9 @@
 -- The whole numbers next to a float. `round` rounds nothing there: see specs/WholeLaws.antt. The conversions are lib.Ieee's `toSigned 31`, `toUnsigned 32` and `ofInt binary32`. Definitions only.
 use mathlib.Core.Bool.{Bool, not, cond}
 use Prim.Native.Nat.{ℕ, _+_, _-_, _*_, _/_}
-use lib.IntN.{pos}
-use lib.Ieee.{Float, nan, inf, fin, binary32, up, down, round, ofInt, toUnsigned}
+use mathlib.Core.List.{List, [], _∷_}
+use lib.IntN.{ℤ, pos}
+use lib.Ieee.{Float, nan, inf, fin, binary32, up, down, round, ofInt, toSigned, toUnsigned}
 use Rattle.numbers.specs.declared.whole.Part.{Part}
 use Rattle.numbers.specs.Words.{signOf}
 
@@ -25,3 +26,7 @@ ceilOf x = wholeOf (not (signOf x)) x
 -- x truncated to 32 bits, and the float of that
 unfoldable pub partOf : Float → Part
 partOf x = record { count = toUnsigned 32 x; value = ofInt binary32 (pos (toUnsigned 32 x)) }
+
+-- the floor and the ceiling as i32
+abbrev pub spanOf : Float → List ℤ
+spanOf x = toSigned 31 (floorOf x) ∷ toSigned 31 (ceilOf x) ∷ []

@@ -9,6 +9,7 @@ use lib.Pow.{pow-pos, pow-add, pow-mono, shl-lt}
 use lib.Ieee.{Float, nan, inf, fin, binary32, up, down, round, neg, ne, isNan}
 use lib.Ieee.Exact.{HasValue, round-exact}
 use borrow.Author.Tests.{ne-eqb}
+use Rattle.laws.specs.Compare.{underZero}
 use Rattle.numbers.specs.Words.{signOf, signed, absOf, halfUnits, halfFields, halfOf}
 
 -- ---- only a NaN differs from itself
@@ -36,6 +37,16 @@ abs-clear (inf true) = tt
 abs-clear (inf false) = tt
 abs-clear (fin true m e) = tt
 abs-clear (fin false m e) = tt
+
+pub abs-not-below : (x : Float) → T (not (underZero (absOf x)))
+unfolding signOf absOf signed neg
+abs-not-below nan = tt
+abs-not-below (inf true) = tt
+abs-not-below (inf false) = tt
+abs-not-below (fin true zero e) = tt
+abs-not-below (fin false zero e) = tt
+abs-not-below (fin true (suc m) e) = tt
+abs-not-below (fin false (suc m) e) = tt
 
 -- ---- a finite binary16 is read with no rounding
 fine : (u x : ℕ) → u < 2 ^ 11 → x < 31 → u * 2 ^ (x + 125) < 2 ^ (149 + 128)

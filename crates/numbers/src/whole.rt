@@ -5,8 +5,8 @@ ghost use Prim.Native.Nat.{_+_, _≤_, min};
 ghost use lib.IntN.{pos, negℤ};
 ghost use lib.Dec.{T};
 ghost use lib.Ieee.{fin, binary32, lt, toSigned, toUnsigned, ofInt};
-ghost use Rattle.numbers.specs.Words.{signOf};
-ghost use Rattle.numbers.specs.Whole.{wholeOf, floorOf, ceilOf, partOf};
+ghost use Rattle.numbers.specs.Words.{signOf, signed};
+ghost use Rattle.numbers.specs.Whole.{wholeOf, floorOf, ceilOf, partOf, spanOf};
 use crate::words;
 
 // a, of clear sign and below 2^23, as a whole number: rounded up or down. The floats from 2^23 to 2^24 are the whole numbers
@@ -180,4 +180,35 @@ pub fn ceil_i32(x: f32) -> i32
     ensures { λ r. ⌜ r ≡ toSigned 31 (ceilOf x) ⌝ }
 {
     to_whole_i32(!words::is_negative(x), x)
+}
+
+// The floor and the ceiling of a, or of -a where s is true, as i32: the whole numbers next to a, with the sign.
+fn between(s: bool, a: f32) -> [i32; 2]
+    requires { ⌜ T (not (signOf a)) ⌝ ∗ ⌜ T (lt a (fin false 1 (pos 23))) ⌝ }
+    ensures { λ r. ⌜ r ≡ spanOf (signed s a) ⌝ }
+{
+    let f = near(false, a);
+    let k = f as u32;
+    let m = next(true, f < a, k);
+    if s {
+        return [with_sign(true, m), with_sign(true, k)];
+    }
+    [with_sign(false, k), with_sign(false, m)]
+}
+
+// Rust's `x.floor() as i32` and `x.ceil() as i32`, at once. The sign is told by a test, since those of most points are alike.
+pub fn span(x: f32) -> [i32; 2]
+    ensures { λ r. ⌜ r ≡ spanOf x ⌝ }
+{
+    if 0.0 < x {
+        if x < 8388608.0 {
+            return between(false, x);
+        }
+    }
+    if x < 0.0 {
+        if -8388608.0 < x {
+            return between(true, -x);
+        }
+    }
+    [floor_i32(x), ceil_i32(x)]
 }

@@ -1,2 +1,4 @@
 -- The laws that the proofs share.
 pub mod Below
+pub mod Steady
+pub mod Flat

@@ -195,6 +195,18 @@ fn atan_near(t: f32) -> f32
     (a + b * w + (c + d * w) * (w * w)) * (z * t) + t
 }
 
+// The same. Of a small number above 0 it is that number, and is told without powers of it, which may be subnormal: these take long on some processors.
+fn atan_flat(t: f32) -> f32
+    ensures { λ r. ⌜ r ≡ atanNear t ⌝ }
+{
+    if 0.0 < t {
+        if t < 0.00006103515625 {
+            return t;
+        }
+    }
+    atan_near(t)
+}
+
 // y / a, and 1 where they are equal, two infinities too.
 fn slope(y: f32, a: f32) -> f32
     ensures { λ r. ⌜ r ≡ slopeOf y a ⌝ }
@@ -214,7 +226,7 @@ fn angle(y: f32, x: f32) -> f32
     if a < y {
         return HALF_PI - atan_near(x / y);
     }
-    let p = atan_near(slope(y, a));
+    let p = atan_flat(slope(y, a));
     if left { PI - p } else { p }
 }
 

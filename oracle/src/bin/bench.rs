@@ -5,30 +5,18 @@ use std::process::ExitCode;
 use std::time::Duration;
 
 use hinthevoun::{Layout, PathBox};
-use oracle::drafts::{Encoded, Figures};
+use oracle::drafts::{Encoded, Figures, KINDS, LINES};
 use oracle::whole::{EMPTY_BOX, prefix_of};
 use vello_encoding::{BumpAllocators, ConfigUniform, LineSoup, PathBbox, PathMonoid};
 
 /// How long the rounds of one sheet may take, and the least number of them.
 const PATIENCE: Duration = Duration::from_secs(4);
 const LEAST_ROUNDS: usize = 11;
-/// How many lines a sheet of each kind has, about: few enough for a cache to hold.
-const LINES: usize = 10_000;
-const GROWTH: [usize; 4] = [1_000, 10_000, 100_000, 1_000_000];
+const GROWTH: [usize; 5] = [1_000, 10_000, 100_000, 1_000_000, 10_000_000];
 /// One line in so many may be more or fewer, since std's mathematics is not ours.
 const LEEWAY: u32 = 1_000;
 /// A middle round that takes so much longer than the least one tells of a machine that does not let anything be timed.
 const DISTURBED: f64 = 1.25;
-
-const KINDS: [(&str, Figures); 7] = [
-    ("fills of lines", Figures::FilledLines),
-    ("fills of quads", Figures::FilledQuads),
-    ("fills of cubics", Figures::FilledCubics),
-    ("strokes of lines, bevel joins, butt caps", Figures::BevelLines),
-    ("strokes of curves, miter joins, butt caps", Figures::MiterCurves),
-    ("strokes, round joins and caps", Figures::RoundStrokes),
-    ("mixed sheet", Figures::Pieces),
-];
 
 const NO_LINE: LineSoup = LineSoup { path_ix: 0, _padding: 0, p0: [0.; 2], p1: [0.; 2] };
 

@@ -30,18 +30,18 @@ returns-3 c = rw (c .before .before .if1 .left, ap (λ (s : Float). lt s (c .bef
 slope-requires : tie.Need-slope-requires
 slope-requires c κs = search needs
 
-atan-near-requires-2 : tie.Need-atan-near-requires-2
-atan-near-requires-2 c κs = search needs
+atan-flat-requires : tie.Need-atan-flat-requires
+atan-flat-requires c κs = search needs
 
 returns-4 : tie.Need-returns-4
 unfolding angleOf
 returns-4 c = rw (c .before .before .before .before .if1 .left, ap (λ (s : Float). lt s (c .before .before .before .before .before .before .before .args .y)) (sym (c .before .before .before .before .before .before .abs .ensures)) ∙ c .before .before .before .if3 .left, sym (c .before .before .before .before .before .is-negative .ensures) ∙ c .if4 .taken)
-    (rw (c .before .atan-near2 .ensures, c .before .before .slope .ensures, c .before .before .before .before .before .before .abs .ensures))
+    (rw (c .before .atan-flat .ensures, c .before .before .slope .ensures, c .before .before .before .before .before .before .abs .ensures))
 
 returns-5 : tie.Need-returns-5
 unfolding angleOf
 returns-5 c = rw (c .before .before .before .before .if1 .left, ap (λ (s : Float). lt s (c .before .before .before .before .before .before .before .args .y)) (sym (c .before .before .before .before .before .before .abs .ensures)) ∙ c .before .before .before .if3 .left, sym (c .before .before .before .before .before .is-negative .ensures) ∙ c .if4 .left)
-    (rw (c .before .atan-near2 .ensures, c .before .before .slope .ensures, c .before .before .before .before .before .before .abs .ensures))
+    (rw (c .before .atan-flat .ensures, c .before .before .slope .ensures, c .before .before .before .before .before .before .abs .ensures))
 
 pub angle-spec : {M : Type 1} → statement M
 angle-spec =
@@ -54,6 +54,6 @@ angle-spec =
     atan-near-requires
     returns-3
     slope-requires
-    atan-near-requires-2
+    atan-flat-requires
     returns-4
     returns-5)

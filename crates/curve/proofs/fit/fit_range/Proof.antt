@@ -6,7 +6,7 @@ use Rattle.curve.proofs.fit.fit_range.Tie as tie
 
 returns : tie.Need-returns
 unfolding fitOf ofBits round
-returns c = rw (c .from-params .ensures, c .before .clamp .ensures, c .before .before .ceil .ensures, c .before .before .before .scale-multiplier .ensures, c .before .before .before .before .n-frac .ensures, c .before .before .before .before .before .robust-of .ensures, c .before .before .before .before .before .before .before .before .before .from-angles .ensures)
+returns c = rw (c .from-params .ensures, c .before .line-count .ensures, c .before .before .robust-of .ensures, c .before .before .before .before .before .before .from-angles .ensures)
 
 pub fit-range-spec : {M : Type 1} → statement M
-fit-range-spec = tie.close (tie.spec (λ c κs. tt) (λ c κs. tt) (λ c κs. tt) (λ c κs. tt) (λ c κs. tt) (λ c κs. tt) (λ c κs. tt) returns)
+fit-range-spec = tie.close (tie.spec (λ c κs. tt) (λ c κs. tt) (λ c κs. tt) (λ c κs. tt) returns)
