@@ -1,13 +1,13 @@
 -- A path all of whose lines come from closed runs of fills, and how often a plotter point is a start and an end. Definitions only.
-use Prim.Native.Nat.{ℕ, _+_, _<_}
+use Prim.Native.Nat.{ℕ, zero, suc, _+_, _<_}
 use mathlib.Core.Path.{_≡_}
 use mathlib.Core.Logic.{_⊎_}
-use mathlib.Core.Bool.{Bool, false, _&&_}
+use mathlib.Core.Bool.{Bool, false, not, _&&_, cond}
 use mathlib.Core.List.{List, [], _∷_}
 use lib.IntN.{ℤ, pos, negsuc}
 use lib.Dec.{eqb}
 use Rattle.records.specs.Record.{once}
-use Rattle.watertight.specs.Fill.{Call, tags, pathAt, drawnAt}
+use Rattle.watertight.specs.Fill.{Call, tags, pathAt, typeOf, drawnAt}
 use Rattle.own_lists.specs.Fills.{Outline, ClosedFill, EachOutline, tagsOf, times}
 use Rattle.hpgl.specs.Form.{Line}
 use Rattle.hpgl.specs.declared.Point.{Point}
@@ -18,6 +18,21 @@ pub record ClosedPath (c : Call) (path : ℕ) : Type 0 where
   pub closed-fills : EachOutline (ClosedFill c) outlines
   -- a tag draws nothing, or in another path, or belongs to one outline, once
   pub nothing-else : (i : ℕ) → i < tags c → (drawnAt c i ≡ []) ⊎ ((pathAt c i ≡ path → ⊥) ⊎ (times i (tagsOf outlines) ≡ 1))
+
+-- tag i has a segment of the path
+abbrev pub ownSegment : Call → ℕ → ℕ → Bool
+ownSegment c path i = not (eqb (typeOf c i) 0) && eqb (pathAt c i) path
+
+-- the segments of the path among n tags from tag i on
+unfoldable pub segmentsFrom : Call → ℕ → ℕ → ℕ → List ℕ
+segmentsFrom c path zero i = []
+segmentsFrom c path (suc n) i = cond (ownSegment c path i) (i ∷ segmentsFrom c path n (suc i)) (segmentsFrom c path n (suc i))
+
+-- the same with the outlines in the order of the tags: the segments of the path are theirs, one outline behind the other
+pub record ClosedInOrder (c : Call) (path : ℕ) : Type 0 where
+  pub outlines : List Outline
+  pub closed-fills : EachOutline (ClosedFill c) outlines
+  pub in-order : segmentsFrom c path (tags c) 0 ≡ tagsOf outlines
 
 -- ---- plotter points
 unfoldable pub sameNumber : ℤ → ℤ → Bool

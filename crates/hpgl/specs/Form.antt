@@ -1,4 +1,5 @@
 -- The form of a file: `IN;`, then chains, each one `PU` and at least one `PD`. Definitions only.
+use mathlib.Core.Path.{_≡_}
 use mathlib.Core.Bool.{Bool, true, false}
 use mathlib.Core.List.{List, [], _∷_, _++_}
 use Prim.Native.Nat.{ℕ, suc, _≤_}
@@ -52,6 +53,18 @@ along q (p ∷ ps) rest = record { from = q; to = p } ∷ along p ps rest
 unfoldable pub linesOf : List Chain → List Line
 linesOf [] = []
 linesOf (c ∷ cs) = along (c .start) (c .first ∷ c .more) (linesOf cs)
+
+-- ---- closed chains
+
+-- where points lead
+unfoldable pub endOf : Point → List Point → Point
+endOf q [] = q
+endOf q (p ∷ ps) = endOf p ps
+
+-- each ends where it began
+unfoldable pub AllClosed : List Chain → Type 0
+AllClosed [] = Unit {0}
+AllClosed (c ∷ cs) = (endOf (c .start) (c .first ∷ c .more) ≡ c .start) × AllClosed cs
 
 -- ---- a table's range: how far below zero, and how far above
 pub record Range : Type 0 where

@@ -13,6 +13,7 @@ pub mod Bits
 pub mod Export
 pub mod ExportLaws
 pub mod RoundTrip
+pub mod Loops
 pub mod Tables
 pub mod Examples
 pub mod Held

@@ -32,7 +32,7 @@ module _ (c : Call) (a : Accepted c) where
   long : length (listOf c a) ≡ placeOf (a .count)
   long = length-take-le (placeOf (a .count)) (outcome c .lines) room
 
-  records : count (listOf c a) ≡ a .count
+  pub records : count (listOf c a) ≡ a .count
   records = omega (arith, long)
 
   module _ (is : ℕ → ℕ → ℕ → Bool) where

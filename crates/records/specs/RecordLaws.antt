@@ -21,7 +21,7 @@ word-behind ws n k i =
     let at : placeOf n + (placeOf k + i) ≡ placeOf (n + k) + i = omega arith in
     getD-drop (placeOf n) ws (placeOf k + i) 0 ∙ ap (λ (j : ℕ). getD ws j 0) at
 
-word-among : (ws : List ℕ) (n k i : ℕ) → k < n → i < 6 → word (take (placeOf n) ws) k i ≡ word ws k i
+pub word-among : (ws : List ℕ) (n k i : ℕ) → k < n → i < 6 → word (take (placeOf n) ws) k i ≡ word ws k i
 word-among ws n k i h l = getD-take (placeOf n) ws (placeOf k + i) 0 (omega arith)
 
 module _ (is : ℕ → ℕ → ℕ → Bool) (at : ℕ) (ws : List ℕ) where

@@ -1,6 +1,6 @@
 -- A run of segments, each of which is a chain of lines, is one chain. Assumes nothing.
 use Prim.Native.Nat.{ℕ, _+_}
-use mathlib.Core.Path.{_≡_, refl, ap}
+use mathlib.Core.Path.{_≡_, refl, ap, subst}
 use mathlib.Core.Bool.{false}
 use mathlib.Core.List.{List, [], _∷_, _++_}
 use native.Mathlib.Omega.{arith}
@@ -36,7 +36,7 @@ module _ (c : Call) (z : List Float) where
   meets : (i j : ℕ) → Meets c i j → written z (lastOf c i) ≡ written z (firstOf c j)
   meets i j = meet z (lastOf c i) (firstOf c j) (points-fit c i _) (points-fit c j 0)
 
-  run-lines : (is : List ℕ) → Each Leads is → AllLines (linesOf c is)
+  pub run-lines : (is : List ℕ) → Each Leads is → AllLines (linesOf c is)
   unfolding Each linesOf AllLines
   run-lines [] h = tt
   run-lines (i ∷ is) h = all-append (drawnAt c i) (linesOf c is) (h .0 .lines) (run-lines is (h .1))
@@ -46,6 +46,10 @@ module _ (c : Call) (z : List Float) where
   run-chain i [] h m = chain-append false _ _ _ (drawnAt c i) [] (h .0 .chain) refl
   run-chain i (j ∷ js) h m =
       chain-append false _ _ _ (drawnAt c i) (linesOf c (j ∷ js)) (h .0 .chain) (rw (meets i j (m .0)) (run-chain j js (h .1) (m .1)))
+
+  -- where the last ends where the first began, the chain comes back
+  pub closed-chain : (i : ℕ) (js : List ℕ) → Each Leads (i ∷ js) → Follows c i js → Closed c i js → Chain false (written z (firstOf c i)) (written z (firstOf c i)) (linesOf c (i ∷ js))
+  closed-chain i js h m e = subst (λ (p : Vec2). Chain false (written z (firstOf c i)) p (linesOf c (i ∷ js))) (meets (final i js) i e) (run-chain i js h m)
 
   -- each point is a start as often as an end, but that the first is once more a start and the last once more an end
   pub open-run : (i : ℕ) (js : List ℕ) → Each Leads (i ∷ js) → Follows c i js → (f : Vec2 → ℕ)

@@ -32,11 +32,11 @@ module _ (c : Call) (accepted : Accepted c) where
             record { rest = f .rest ++ recordsAt c k; is = ap (λ (ws : List ℕ). ws ++ recordsAt c k) (f .is) ∙ simp append-assoc }
       ]
 
-  record Place (i : ℕ) : Type 0 where
-    rest : List ℕ
-    is : drop (countBefore c i * 6) (outcome c .lines) ≡ recordsAt c i ++ rest
+  pub record Place (i : ℕ) : Type 0 where
+    pub rest : List ℕ
+    pub is : drop (countBefore c i * 6) (outcome c .lines) ≡ recordsAt c i ++ rest
 
-  place : (i : ℕ) → i < tags c → Place i
+  pub place : (i : ℕ) → i < tags c → Place i
   place i h =
       let d = done c accepted in
       let f = from i (tags c) h in

@@ -7,10 +7,11 @@ use lib.ListN.{length}
 use Rattle.spiral.specs.declared.util.Vec2.{Vec2}
 use Rattle.curve.specs.Chain.{Chain}
 use Rattle.scene.specs.Reading.{floatsAt}
+use Rattle.watertight.specs.Balance.{AllLines}
 use Rattle.watertight.specs.Count.{startsBy, endsBy, bitsAre, isAt, starts, ends}
 use Rattle.watertight.specs.Fill.{Call, Accepted, drawnAt, firstOf, lastOf, writtenBy, Filled, Each, Run, final, Closed, linesOf, stored}
 use Rattle.watertight.specs.FillLaws.{fill-few, fill-chain-of}
-use Rattle.watertight.specs.Runs.{Leads, open-run, closed-run}
+use Rattle.watertight.specs.Runs.{Leads, run-lines, closed-chain, open-run, closed-run}
 use Rattle.watertight.specs.Accepted.{done}
 use Rattle.watertight.specs.Stored.{as-drawn}
 
@@ -41,6 +42,12 @@ watertight-by c a i js r = closed-run c (floatsAt (r .z) 0) i js (each _ _ (lead
 pub watertight : (c : Call) → Accepted c → (i : ℕ) (js : List ℕ) → Run c i js → Closed c i js
     → (x y : ℕ) → starts x y (linesOf c (i ∷ js)) ≡ ends x y (linesOf c (i ∷ js))
 watertight c a i js r closed x y = watertight-by c a i js r closed (isAt x y)
+
+-- the lines of a closed run of an accepted call are one chain, back to where it starts
+pub one-chain : (c : Call) → Accepted c → (i : ℕ) (js : List ℕ) → Run c i js → Closed c i js → (p : Vec2) × AllLines (linesOf c (i ∷ js)) × Chain false p p (linesOf c (i ∷ js))
+one-chain c a i js r closed =
+    let all = each _ _ (leads c a (r .z)) (i ∷ js) (r .filled) in
+    (writtenBy (r .z) (firstOf c i), run-lines c (floatsAt (r .z) 0) (i ∷ js) all, closed-chain c (floatsAt (r .z) 0) i js all (r .follows) closed)
 
 -- no segment of a run draws over 6,553,600 lines
 pub few : (c : Call) → Accepted c → (i : ℕ) (js : List ℕ) → Run c i js → Each (λ k. length (drawnAt c k) ≤ 6553600) (i ∷ js)
