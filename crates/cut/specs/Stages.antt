@@ -14,7 +14,7 @@ use Rattle.flatten.specs.Boxes.{freshBox}
 use Rattle.flatten.specs.Call.{callOf}
 use Rattle.flatten.specs.declared.call.Layout.{Layout}
 use Rattle.hpgl.specs.Form.{rangeOf}
-use Rattle.hpgl.specs.Export.{exportOf, answerOf, cutReport}
+use Rattle.hpgl.specs.Export.{exportOf, lookOf, cutReport}
 use Rattle.hpgl.specs.declared.Table.{Table}
 use Rattle.cut.specs.Sheet.{Lay, layOf}
 use Rattle.cut.specs.declared.sheet.Laid.{Laid}
@@ -47,7 +47,7 @@ unfoldable pub reportOf : Answer → Report
 reportOf (Whole n) = report 0 0 0 n
 reportOf (Refused stage number at) = report number (stageOf stage) at 0
 
--- ---- 6: the lines of path 0 as a file for the table, its bytes written where all of them can be
+-- ---- 6: the lines of path 0 as a file for the table, written only where a look finds that all of it can be
 
 -- the answer, and the bytes afterwards
 pub record Cutting : Type 0 where
@@ -59,9 +59,9 @@ cutting a bs = record { answer = a; bytes = bs }
 
 unfoldable pub exportStage : Table → List ℕ → List ℕ → Cutting
 exportStage table list bytes =
-    let file = exportOf (rangeOf table) 0 (length bytes) list in
-    let r = cutReport (answerOf (file .verdict) (length (file .bytes))) in
-    cond (eqb (r .number) 0) (cutting (Whole (r .stands)) (file .bytes ++ drop (r .stands) bytes)) (cutting (Refused Export (r .number) (r .at)) bytes)
+    let r = cutReport (lookOf table 0 (length bytes) list) in
+    cond (eqb (r .number) 0) (cutting (Whole (r .stands)) (exportOf (rangeOf table) 0 (length bytes) list .bytes ++ drop (r .stands) bytes))
+    (cutting (Refused Export (r .number) (r .at)) bytes)
 
 -- ---- 5: flattening, with one box, which is not told; only whole lines go on
 

@@ -3,6 +3,7 @@ ghost use mathlib.Core.Path.{_≡_};
 ghost use Rattle.cut.specs.Stages.{stageOf, reportOf};
 
 pub mod sheet;
+pub mod way;
 
 // The stages of a call, in order.
 pub enum Stage {
