@@ -165,5 +165,14 @@ pub fn cut(
     }
     let n = smaller(pen.tags, tags.len());
     let m = smaller(pen.points, points.len());
-    sheet_stage(&tags[..n], &points[..m], six, table, scene, prefixes, lines, bytes)
+    sheet_stage(
+        &tags[..n],
+        &points[..m],
+        six,
+        table,
+        scene,
+        prefixes,
+        lines,
+        bytes,
+    )
 }

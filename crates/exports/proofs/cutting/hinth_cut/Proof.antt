@@ -1,4 +1,4 @@
--- `exports::cut::hinth_cut` meets its contract. Assumes nothing.
+-- `exports::cutting::hinth_cut` meets its contract. Assumes nothing.
 use borrow.Author.Needs.{needs}
 use mathlib.Core.Path.{_≡_, sym}
 use mathlib.Core.List.{List}
@@ -8,8 +8,8 @@ use Rattle.hpgl.specs.declared.Report.{Report}
 use Rattle.hpgl.specs.declared.export.Cut.{Cut}
 use Rattle.exports.specs.Check.{twoOf}
 use Rattle.exports.specs.Cut.{written, writtenOf}
-use Rattle.exports.proofs.cut.hinth_cut.Statement.{statement}
-use Rattle.exports.proofs.cut.hinth_cut.Tie as tie
+use Rattle.exports.proofs.cutting.hinth_cut.Statement.{statement}
+use Rattle.exports.proofs.cutting.hinth_cut.Tie as tie
 
 export-requires : tie.Need-export-requires
 export-requires c κs = search needs

@@ -18,7 +18,7 @@ pub extern "C" fn hinth_cut(list: &[u32], path: u32, bytes: &mut [u8], out: &mut
     report.number
 }
 
-fn table_of(number: u32) -> Table
+pub(crate) fn table_of(number: u32) -> Table
     ensures { λ r. ⌜ r ≡ tableOf number ⌝ }
 {
     if number == 1 {

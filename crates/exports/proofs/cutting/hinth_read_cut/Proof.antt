@@ -1,4 +1,4 @@
--- `exports::cut::hinth_read_cut` meets its contract. Assumes nothing.
+-- `exports::cutting::hinth_read_cut` meets its contract. Assumes nothing.
 use borrow.Author.Needs.{needs}
 use mathlib.Core.Path.{_≡_, sym}
 use mathlib.Core.List.{List}
@@ -9,8 +9,8 @@ use Rattle.hpgl.specs.declared.Report.{Report}
 use Rattle.hpgl.specs.declared.reading.ReadBack.{ReadBack}
 use Rattle.exports.specs.Check.{twoOf}
 use Rattle.exports.specs.Cut.{linesRead, linesReadOf}
-use Rattle.exports.proofs.cut.hinth_read_cut.Statement.{statement}
-use Rattle.exports.proofs.cut.hinth_read_cut.Tie as tie
+use Rattle.exports.proofs.cutting.hinth_read_cut.Statement.{statement}
+use Rattle.exports.proofs.cutting.hinth_read_cut.Tie as tie
 
 table-of-requires : tie.Need-table-of-requires
 table-of-requires c κs = search needs

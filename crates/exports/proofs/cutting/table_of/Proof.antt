@@ -1,8 +1,8 @@
--- `exports::cut::table_of` meets its contract. Assumes nothing.
+-- `exports::cutting::table_of` meets its contract. Assumes nothing.
 use borrow.Author.Tests.{eq-eqb, ne-eqb}
 use Rattle.exports.specs.Cut.{tableOf}
-use Rattle.exports.proofs.cut.table_of.Statement.{statement}
-use Rattle.exports.proofs.cut.table_of.Tie as tie
+use Rattle.exports.proofs.cutting.table_of.Statement.{statement}
+use Rattle.exports.proofs.cutting.table_of.Tie as tie
 
 returns : tie.Need-returns
 unfolding tableOf
