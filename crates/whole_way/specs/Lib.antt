@@ -1,3 +1,4 @@
 pub mod Calls
 pub mod Sheets
 pub mod Drawn
+pub mod Stages
