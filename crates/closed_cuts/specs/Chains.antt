@@ -1,10 +1,10 @@
 -- The cut of a path is what its segments draw, and each chain of a closed cut ends where it began: the theorems. What they speak of is defined in Closed.antt. Assumes nothing.
 use Prim.Native.Nat.{ℕ, zero, suc, _+_, _≤_, _<_}
 use mathlib.Core.Path.{_≡_, refl, sym, ap, _∙_, subst}
-use mathlib.Core.Logic.{_⊎_, inl, inr}
+use mathlib.Core.Logic.{inl, inr}
 use mathlib.Core.Bool.{Bool, true, false, false≢true, not, _&&_, cond}
 use mathlib.Core.List.{List, [], _∷_, _++_, append-assoc}
-use native.Mathlib.Nat.{add-zero, zero-add}
+use native.Mathlib.Nat.{zero-add}
 use native.Mathlib.Omega.{arith}
 use lib.Dec.{T, eqb, eqb→eq}
 use lib.ListN.{length, getD, take, drop}
@@ -20,7 +20,7 @@ use Rattle.curve.specs.Chain.{Chain}
 use Rattle.flatten.specs.Tag.{eventsBy, eventsAt}
 use Rattle.flatten.specs.Step.{tagWord}
 use Rattle.watertight.specs.Balance.{AllLines}
-use Rattle.watertight.specs.Fill.{Call, Accepted, outcome, tags, pathAt, typeOf, headOf, readEvents, eventsOr, drawnAt, linesOf, countBefore}
+use Rattle.watertight.specs.Fill.{Call, Accepted, outcome, tags, pathAt, typeOf, eventsOr, drawnAt, linesOf, countBefore}
 use Rattle.watertight.specs.Accepted.{recordsAt, done}
 use Rattle.watertight.specs.Stored.{place}
 use Rattle.watertight.specs.Watertight.{one-chain}
@@ -33,7 +33,7 @@ use Rattle.hpgl.specs.Rounding.{pointOf}
 use Rattle.hpgl.specs.Export.{exportOf, roundedFrom, roundedLines}
 use Rattle.hpgl.specs.RoundTrip.{isWritten}
 use Rattle.hpgl.specs.Loops.{Turn, Within, First, Loops, export-closed}
-use Rattle.closed_cuts.specs.Closed.{ownSegment, segmentsFrom, ClosedInOrder, rounded}
+use Rattle.closed_cuts.specs.Closed.{segmentsFrom, ClosedInOrder, rounded}
 
 -- ---- the lines of a path among records
 

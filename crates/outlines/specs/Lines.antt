@@ -2,7 +2,7 @@
 use Prim.Native.Nat.{ℕ, suc, _+_, _-_, _*_, _%_, _^_, _<_, _≤_}
 use mathlib.Core.Path.{_≡_, refl, sym, ap, _∙_, subst}
 use mathlib.Core.Bool.{Bool, true, false}
-use mathlib.Core.List.{List, [], _∷_, _++_}
+use mathlib.Core.List.{List, [], _∷_}
 use native.Mathlib.Omega.{arith}
 use lib.Dec.{eqb, lit<}
 use lib.ListN.{length, getD, take, drop}
@@ -28,7 +28,7 @@ use Rattle.watertight.specs.Accepted.{done}
 use Rattle.watertight.specs.Watertight.{watertight, watertight-stored}
 use Rattle.outlines.specs.Placing.{left, subpaths, Finished, tagWords, FreshCall, dataAt, styleAt, sixWords, FillAt, Placed, tagsFrom, outlines, ClosedRun, Watertight}
 use Rattle.outlines.specs.Walk.{tagByte, Drawn, Walk, Walks}
-use Rattle.outlines.specs.Decode.{byte-is, length-with, walked}
+use Rattle.outlines.specs.Decode.{byte-is, size-of, walked}
 
 -- a word that was found stands in the scene
 pub word-there : (n d j : ℕ) (scene ws : List ℕ) → take n (drop d scene) ≡ ws → j < n → getD scene (d + j) 0 ≡ getD ws j 0
@@ -183,7 +183,7 @@ module _ (c : Call) (a : Accepted c) (f : FreshCall c) (at : ℕ) (fill : FillAt
   unfolding Walks outlines tagsOf
   all-runs i [] none l w = none
   all-runs i (s ∷ ss) (more k ks) l w =
-      let size = length-with (s .segments) (tagsOf ss) in
+      let size = size-of s ss in
       more (closed-run i s k (omega (arith, size)) (w .0)) (all-runs (i + length (s .segments)) ss ks (omega (arith, size)) (w .1))
 
 -- ---- the theorems

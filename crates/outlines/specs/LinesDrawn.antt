@@ -23,7 +23,7 @@ use Rattle.watertight.specs.Accepted.{done}
 use Rattle.outlines.specs.Placing.{left, subpaths, Finished, FreshCall, sixWords, FillAt, Placed, tagsFrom}
 use Rattle.outlines.specs.Flattened.{cubicFrom, drawnBy, drawnAlong, flattened}
 use Rattle.outlines.specs.Walk.{Drawn, Walk, Walks}
-use Rattle.outlines.specs.Decode.{length-with, walked}
+use Rattle.outlines.specs.Decode.{size-of, walked}
 use Rattle.outlines.specs.Lines.{its-type, filled, spot-at}
 
 -- points that are a segment's, by its words, are raised to its cubic
@@ -75,7 +75,7 @@ module _ (c : Call) (a : Accepted c) (f : FreshCall c) (at : ℕ) (fill : FillAt
   unfolding Walks tagsOf tagsFrom linesOf flattened
   of-walks i [] l w = refl
   of-walks i (s ∷ ss) l w =
-      let size = length-with (s .segments) (tagsOf ss) in
+      let size = size-of s ss in
       ap (λ (n : ℕ). linesOf c (tagsFrom i n)) size
       ∙ of-walk i (length (tagsOf ss)) (s .start) (s .segments) (omega (arith, size)) (w .0)
       ∙ ap (λ (es : List Event). drawnAlong (sixWords c at) (s .start) (s .segments) ++ es) (of-walks (i + length (s .segments)) ss (omega (arith, size)) (w .1))
