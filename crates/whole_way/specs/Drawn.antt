@@ -6,7 +6,7 @@ use mathlib.Core.List.{List, [], _∷_, _++_, append-nil}
 use native.Mathlib.Omega.{arith}
 use native.Mathlib.Decide.{ℕ-discrete, decLt}
 use lib.Dec.{eqb}
-use lib.ListN.{length, getD, take, drop, length-append}
+use lib.ListN.{length, getD, take, drop}
 use lib.Seq.{take-at}
 use borrow.Author.Tests.{eq-eqb, ne-eqb}
 use Rattle.scene.specs.Tags.{bit, tagSums, plus, tagData}
@@ -22,7 +22,7 @@ use Rattle.watertight.specs.Fill.{Call, Accepted, headOf, typeOf, pathAt, Each}
 use Rattle.watertight.specs.Fill as fills
 use Rattle.watertight.specs.Accepted.{done}
 use Rattle.outlines.specs.Placing.{left, subpaths, Finished, drawnTags, drawnPoints, tagWords, FreshCall, Here, Placed, tagsFrom, outlines, ClosedRun}
-use Rattle.outlines.specs.Decode.{length-tags}
+use Rattle.outlines.specs.Decode.{size-of}
 use Rattle.outlines.specs.Lines.{closed-runs}
 use Rattle.own_lists.specs.Fills.{Outline, ClosedFill, EachOutline}
 use Rattle.own_lists.specs.Fills as fill
@@ -101,9 +101,7 @@ in-a-row : (i : ℕ) (ss : List Subpath) → tagsFrom i (length (tagsOf ss)) ≡
 unfolding tagsOf outlines allOf tagsFrom
 in-a-row i [] = refl
 in-a-row i (s ∷ ss) =
-    let size : length (segmentTags (s .segments) ++ tagsOf ss) ≡ length (s .segments) + length (tagsOf ss) =
-    length-append (segmentTags (s .segments)) (tagsOf ss) ∙ ap (λ (k : ℕ). k + length (tagsOf ss)) (length-tags (s .segments)) in
-    ap (tagsFrom i) size ∙ tags-parts i (length (s .segments)) (length (tagsOf ss)) ∙ ap (λ (is : List ℕ). tagsFrom i (length (s .segments)) ++ is) (in-a-row (i + length (s .segments)) ss)
+    ap (tagsFrom i) (size-of s ss) ∙ tags-parts i (length (s .segments)) (length (tagsOf ss)) ∙ ap (λ (is : List ℕ). tagsFrom i (length (s .segments)) ++ is) (in-a-row (i + length (s .segments)) ss)
 
 each-front : (P : ℕ → Type 0) (is js : List ℕ) → Each P (is ++ js) → Each P is × Each P js
 unfolding Each

@@ -1,5 +1,5 @@
 -- The sheet that the whole way writes, as a call reads it: what commands wrote stands in it, under one fill style and one transform. Assumes nothing.
-use Prim.Native.Nat.{ℕ, zero, suc, _+_, _*_, _/_, _%_, _^_, _<_, _≤_}
+use Prim.Native.Nat.{ℕ, zero, suc, _+_, _-_, _*_, _/_, _%_, _^_, _<_, _≤_}
 use mathlib.Core.Path.{_≡_, refl, sym, ap, _∙_, subst}
 use mathlib.Core.Bool.{true, false}
 use mathlib.Core.List.{List, [], _∷_, _++_, append-assoc}
@@ -11,13 +11,14 @@ use borrow.Author.Tests.{lt-ltb, le-leb}
 use Rattle.refusals.specs.Refusals.{found}
 use Rattle.scene.specs.Tags.{bit, byteAt}
 use Rattle.scene.specs.Words.{wordAt}
-use Rattle.scene.specs.Reading.{flagsOf}
+use Rattle.scene.specs.Reading.{transformOf, flagsOf}
 use Rattle.scene.specs.Fresh.{byteOf}
 use Rattle.cut.specs.Sheet.{tagBytes, tagWord, packed, groups, tagWords, fillStyle, layoutBy, sheetOf, sizeOf}
 use Rattle.cut.specs.SheetLaws.{drawn-byte, path-byte, no-byte, length-packed, word-of-tags, word-of-tail, zeros-behind, length-sheet}
+use Rattle.profile.specs.Rules.{sixAt, straight}
 use Rattle.watertight.specs.Fill.{Call, tags}
 use Rattle.outlines.specs.Placing as placing
-use Rattle.outlines.specs.Placing.{FreshCall, dataAt, transformAt, styleAt, FillAt}
+use Rattle.outlines.specs.Placing.{FreshCall, dataAt, Lent, transformAt, styleAt, FillAt}
 use Rattle.outlines.specs.Sheet.{Begins, sheet-begins}
 use Rattle.whole_way.specs.Calls.{sceneOf, sheetCall}
 
@@ -132,13 +133,40 @@ module _ (drawn points six scene prefixes lines : List ℕ) (six-long : length s
   unfolding wordAt
   tail-read i l = rw (lt-ltb (W + length points + i) (length (c .scene)) (unfold sizeOf in omega (arith, long))) (ap found (tail-word i l))
 
-  style-read : (i : ℕ) → i < 8 → (address : ℕ) → address ≡ W + length points + i → wordAt (c .scene) (address % 2 ^ 32) ≡ found (getD (six ++ fillStyle) i 0)
-  style-read i l address e =
-      let at : address % 2 ^ 32 ≡ W + length points + i = unfold sizeOf in omega (arith, few, e) in
-      ap (wordAt (c .scene)) at ∙ tail-read i l
-
   pub fill : FillAt c 2
-  unfolding flagsOf
+  unfolding flagsOf sheetCall layoutBy sizeOf
   fill =
-      let at : c .layout .«style_base» + styleAt c 2 ≡ W + length points + 6 = unfold sheetCall in unfold layoutBy in omega (arith, begins .first-style) in
-      record { flags = 0; read = style-read 6 (omega arith) _ at ∙ ap found (zeros-behind six 6 (omega (arith, six-long))); no-stroke = refl }
+      let at : (c .layout .«style_base» + styleAt c 2) % 2 ^ 32 ≡ W + length points + 6 = omega (arith, few, begins .first-style) in
+      record { flags = 0; read = ap (wordAt (c .scene)) at ∙ tail-read 6 (omega arith) ∙ ap found (zeros-behind six 6 (omega (arith, six-long))); no-stroke = refl }
+
+  -- ---- what the profile asks besides
+
+  -- a word stands where flags are read before the first style
+  pub before-styles : flagsOf (c .scene) (c .layout .«style_base») (2 ^ 32 - 2) ≡ found (getD (six ++ fillStyle) 4 0)
+  unfolding flagsOf sheetCall layoutBy sizeOf
+  before-styles =
+      let at : (c .layout .«style_base» + (2 ^ 32 - 2)) % 2 ^ 32 ≡ W + length points + 4 = omega (arith, few) in
+      ap (wordAt (c .scene)) at ∙ tail-read 4 (omega arith)
+
+  pub transform-there : transformOf (c .scene) (c .layout .«transform_base») 0 .found ≡ true
+  unfolding transformOf sheetCall layoutBy sizeOf
+  transform-there =
+      let at : W + length points + 0 * 6 ≡ W + length points = omega arith in
+      rw (at, lt-ltb (W + length points) (2 ^ 32) (omega (arith, few)), le-leb (W + length points + 6) (length (c .scene)) (omega (arith, long)))
+
+  -- the shear of the sheet is that of the six words
+  pub same-shear : straight (sixAt (c .scene) (c .layout .«transform_base»)) ≡ straight six
+  unfolding straight sixAt sheetCall layoutBy
+  same-shear = rw (word 1 (omega arith), word 2 (omega arith))
+    where
+      word : (i : ℕ) → i < 6 → getD (c .scene) (W + length points + i) 0 ≡ getD six i 0
+      word i l = tail-word i (omega arith) ∙ List·getD-append six fillStyle 0 i (omega (arith, six-long, l))
+
+  pub bases : (c .layout .«tag_base» ≤ length (c .scene)) × (c .layout .«data_base» ≤ length (c .scene))
+  unfolding sheetCall layoutBy sizeOf
+  bases = (omega arith, omega (arith, long))
+
+  -- a prefix is lent for each word of tags
+  pub lent : W * 4 ≤ length prefixes → Lent c fresh (tags c)
+  unfolding fresh
+  lent h = record { words = unfold sheetCall in unfold layoutBy in unfold sizeOf in omega (arith, all-tags, long); prefixes = omega (arith, all-tags, h) }

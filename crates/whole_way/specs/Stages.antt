@@ -34,7 +34,10 @@ use Rattle.hpgl.specs.declared.export.Cut.{Cut}
 use Rattle.hpgl.specs.declared.export.Cut.the-variants as cut
 use Rattle.cut.specs.Sheet.{layoutOf, layoutBy, tagWords, sheetOf, sizeOf, fits, layOf}
 use Rattle.cut.specs.Stages.{Cutting, exportStage, Left, left, flattenStage, profileStage, scanStage, laidBy, sheetStage, cutOf}
+use Rattle.cut.specs.declared.sheet.Laid.{Laid}
+use Rattle.cut.specs.declared.sheet.Laid.the-variants as lay
 use Rattle.cut.specs.declared.Stage.{Stage}
+use Rattle.cut.specs.declared.Stage.the-variants.{Text, Scan, Profile, Flatten}
 use Rattle.cut.specs.declared.Answer.the-variants.{Whole, Refused}
 use Rattle.watertight.specs.Fill.{Call, Accepted, outcome}
 use Rattle.whole_way.specs.Calls.{sceneOf, sheetCall}
@@ -84,25 +87,36 @@ read-is text tags points (Faulty NotInLanguage i) h e = absurd (omega (arith, e)
 read-is text tags points (Faulty TooLong i) h e = absurd (omega (arith, e))
 read-is text tags points (Undrawn k i) h e = absurd (omega (arith, e, only-room text freshPen tags points k i h))
 
+-- what every stage behind the text said of what was drawn, and the bytes afterwards
+pub record Goes (six : List ℕ) (table : Table) (scene prefixes lines bytes : List ℕ) (n : ℕ) (file drawn words : List ℕ) : Type 0 where
+  pub few : sizeOf (length drawn) (length words) < 2 ^ 31
+  pub room : sizeOf (length drawn) (length words) ≤ length scene
+  pub passed : let c = sheetCall drawn words six scene prefixes lines in toldOf (profileOf (given (c .layout) (c .scene) (c .prefixes))) .number ≡ 0
+  pub accepted : Accepted (sheetCall drawn words six scene prefixes lines)
+  pub cuts : Cuts table (take (accepted .count * 6) (outcome (sheetCall drawn words six scene prefixes lines) .lines)) bytes n
+  pub its-file : file ≡ exportStage table (take (accepted .count * 6) (outcome (sheetCall drawn words six scene prefixes lines) .lines)) bytes .bytes
+
+-- what the text drew: its tags and the words of its points
+abbrev pub drawn-tags : List ℕ → List ℕ → List ℕ → List ℕ
+drawn-tags text tags points = let t = importOf text freshPen tags points in take (t .pen .tags) (t .tags)
+
+abbrev pub drawn-words : List ℕ → List ℕ → List ℕ → List ℕ
+drawn-words text tags points = let t = importOf text freshPen tags points in take (t .pen .points) (t .points)
+
 module _ (text six : List ℕ) (table : Table) (tags points scene prefixes lines bytes : List ℕ) (n : ℕ) where
   abbrev drawn : List ℕ
-  drawn = let t = importOf text freshPen tags points in take (t .pen .tags) (t .tags)
+  drawn = drawn-tags text tags points
 
   abbrev words : List ℕ
-  words = let t = importOf text freshPen tags points in take (t .pen .points) (t .points)
+  words = drawn-words text tags points
 
   abbrev c : Call
   c = sheetCall drawn words six scene prefixes lines
 
-  -- what every stage said
+  -- the text was read, and the stages behind it went on
   pub record Went : Type 0 where
     pub read : importOf text freshPen tags points .ending ≡ Read
-    pub few : sizeOf (length drawn) (length words) < 2 ^ 31
-    pub room : sizeOf (length drawn) (length words) ≤ length scene
-    pub passed : toldOf (profileOf (given (c .layout) (c .scene) (c .prefixes))) .number ≡ 0
-    pub accepted : Accepted c
-    pub cuts : Cuts table (take (accepted .count * 6) (outcome c .lines)) bytes n
-    pub file : cutOf text six table tags points scene prefixes lines bytes .behind .bytes ≡ exportStage table (take (accepted .count * 6) (outcome c .lines)) bytes .bytes
+    pub goes : Goes six table scene prefixes lines bytes n (cutOf text six table tags points scene prefixes lines bytes .behind .bytes) drawn words
 
   abbrev layout : Layout
   layout = layoutOf (length drawn) (length words)
@@ -113,8 +127,8 @@ module _ (text six : List ℕ) (table : Table) (tags points scene prefixes lines
     text-went-on = went-on n (eqb (reportOf (importOf text freshPen tags points .ending) .number) 0) _ _ e (no-refusal _ _ _ n)
 
     sheet-went-on : (b : Bool) → fits (length drawn) (length words) (length scene) ≡ b → sheetStage drawn words six table scene prefixes lines bytes .answer ≡ Whole n
-        → (b ≡ true) × (sheetStage drawn words six table scene prefixes lines bytes ≡ scanStage layout table (sceneOf drawn words six scene) prefixes lines bytes)
-    unfolding sheetStage laidBy layOf sceneOf
+        → (b ≡ true) × (sheetStage drawn words six table scene prefixes lines bytes ≡ scanStage layout table (c .scene) prefixes lines bytes)
+    unfolding sheetStage laidBy layOf sheetCall sceneOf
     sheet-went-on true h k = (refl, rw h)
     sheet-went-on false h k = absurd (no-refusal _ _ _ n (rw h at k))
 
@@ -126,3 +140,97 @@ module _ (text six : List ℕ) (table : Table) (tags points scene prefixes lines
         → (eqb (toldOf (profileOf (given layout (c .scene) (c .prefixes))) .number) 0 ≡ true) × (profileStage layout table (c .scene) (c .prefixes) lines bytes ≡ flattenStage layout table (c .scene) (c .prefixes) lines bytes)
     unfolding profileStage
     profile-went-on k = went-on n (eqb (toldOf (profileOf (given layout (c .scene) (c .prefixes))) .number) 0) _ _ k (no-refusal _ _ _ n)
+
+    flatten-went-on : flattenStage layout table (c .scene) (c .prefixes) lines bytes .answer ≡ Whole n
+        → (eqb (outcome c .answer .number) 0 ≡ true)
+        × (exportStage table (take (outcome c .answer .count * 6) (outcome c .lines)) bytes .answer ≡ Whole n)
+        × (flattenStage layout table (c .scene) (c .prefixes) lines bytes .bytes ≡ exportStage table (take (outcome c .answer .count * 6) (outcome c .lines)) bytes .bytes)
+    unfolding flattenStage sheetCall
+    flatten-went-on k =
+        let w = went-on n (eqb (outcome c .answer .number) 0) _ _ k (no-refusal _ _ _ n) in
+        (w .0, ap (λ (l : Left). l .answer) (sym (w .1)) ∙ k, ap (λ (l : Left). l .bytes) (w .1))
+
+    its-call : outcome c .answer .number ≡ 0 → sizeOf (length drawn) (length words) < 2 ^ 31 → Accepted c
+    unfolding sheetCall layoutBy sizeOf
+    its-call z few = record { u32 = omega (arith, few); count = outcome c .answer .count; answer = call-said layout (c .scene) (c .prefixes) lines z }
+
+    -- where the whole way accepts, every stage did
+    pub went : Went
+    unfolding fits its-call
+    went =
+        let t = text-went-on in
+        let s = sheet-went-on (fits (length drawn) (length words) (length scene)) refl (ap (λ (l : Left). l .answer) (sym (t .1)) ∙ e) in
+        let at-scan = t .1 ∙ s .1 in
+        let at-profile = at-scan ∙ scan-went-on (ap (λ (l : Left). l .answer) (sym at-scan) ∙ e) in
+        let p = profile-went-on (ap (λ (l : Left). l .answer) (sym at-profile) ∙ e) in
+        let at-flatten = at-profile ∙ p .1 in
+        let f = flatten-went-on (ap (λ (l : Left). l .answer) (sym at-flatten) ∙ e) in
+        let below = ltb (sizeOf (length drawn) (length words)) (2 ^ 31) in
+        let within = leb (sizeOf (length drawn) (length words)) (length scene) in
+        let h : T (below && within) = subst T (sym (s .0)) tt in
+        let few = ltb→lt (sizeOf (length drawn) (length words)) (2 ^ 31) (and-l below within h) in
+        record {
+          read = read-is text tags points (importOf text freshPen tags points .ending) refl (eqb-true _ _ (t .0));
+          goes =
+              record {
+                few = few;
+                room = leb→le (sizeOf (length drawn) (length words)) (length scene) (and-r below within h);
+                passed = unfold sheetCall in eqb-true _ _ (p .0);
+                accepted = its-call (eqb-true _ _ (f .0)) few;
+                cuts = export-went-on table (take (outcome c .answer .count * 6) (outcome c .lines)) bytes n (f .1);
+                its-file = ap (λ (l : Left). l .bytes) at-flatten ∙ f .2;
+              };
+        }
+
+-- ---- a refusal
+
+-- the bytes of the export's stage are as they were unless it accepts
+export-kept : (table : Table) (list bytes : List ℕ) (stage : Stage) (number at : ℕ) → exportStage table list bytes .answer ≡ Refused stage number at → exportStage table list bytes .bytes ≡ bytes
+unfolding exportStage cutReport
+export-kept table list bytes stage number at = go (lookOf table 0 (length bytes) list) refl
+  where
+    go : (k : Cut) → lookOf table 0 (length bytes) list ≡ k → exportStage table list bytes .answer ≡ Refused stage number at → exportStage table list bytes .bytes ≡ bytes
+    go (cut.Whole m) h e = absurd (no-refusal stage number at m (sym (rw h at e)))
+    go (cut.BadNumber m i) h e = rw h
+    go (cut.NoRoom m i) h e = rw h
+
+-- a stage that refuses, or the next
+either : (stage : Stage) (number at : ℕ) (bytes : List ℕ) (b : Bool) (x y : Left) → (x .answer ≡ Refused stage number at → x .bytes ≡ bytes) → y .bytes ≡ bytes → cond b x y .answer ≡ Refused stage number at → cond b x y .bytes ≡ bytes
+either stage number at bytes true x y f e h = f h
+either stage number at bytes false x y f e h = e
+
+module _ (text six : List ℕ) (table : Table) (tags points scene prefixes lines bytes : List ℕ) (stage : Stage) (number at : ℕ) where
+  flatten-kept : (layout : Layout) (scene prefixes : List ℕ) → flattenStage layout table scene prefixes lines bytes .answer ≡ Refused stage number at → flattenStage layout table scene prefixes lines bytes .bytes ≡ bytes
+  unfolding flattenStage
+  flatten-kept layout scene prefixes =
+      let o = call.callOf layout scene prefixes (freshBox ∷ []) lines in
+      let list = take (o .answer .count * 6) (o .lines) in
+      let k = exportStage table list bytes in
+      either stage number at bytes (eqb (o .answer .number) 0) (left (k .answer) scene prefixes (o .lines) (k .bytes)) (left (Refused Flatten (o .answer .number) (o .answer .tag)) scene prefixes (o .lines) bytes)
+      (export-kept table list bytes stage number at) refl
+
+  profile-kept : (layout : Layout) (scene prefixes : List ℕ) → profileStage layout table scene prefixes lines bytes .answer ≡ Refused stage number at → profileStage layout table scene prefixes lines bytes .bytes ≡ bytes
+  unfolding profileStage
+  profile-kept layout scene prefixes =
+      let t = toldOf (profileOf (given layout scene prefixes)) in
+      either stage number at bytes (eqb (t .number) 0) (flattenStage layout table scene prefixes lines bytes) (left (Refused Profile (t .number) (t .tag)) scene prefixes lines bytes) (flatten-kept layout scene prefixes) refl
+
+  scan-kept : (layout : Layout) (scene : List ℕ) → scanStage layout table scene prefixes lines bytes .answer ≡ Refused stage number at → scanStage layout table scene prefixes lines bytes .bytes ≡ bytes
+  unfolding scanStage
+  scan-kept layout scene =
+      let s = scanOf scene (layout .«tag_base») prefixes in
+      either stage number at bytes (eqb (s .number) 0) (profileStage layout table scene (s .words) lines bytes) (left (Refused Scan (s .number) 0) scene (s .words) lines bytes) (profile-kept layout scene (s .words)) refl
+
+  laid-kept : (r : Laid) (scene : List ℕ) → laidBy r table scene prefixes lines bytes .answer ≡ Refused stage number at → laidBy r table scene prefixes lines bytes .bytes ≡ bytes
+  unfolding laidBy
+  laid-kept (lay.Sheet layout) scene h = scan-kept layout scene h
+  laid-kept (lay.NoRoom k) scene h = refl
+
+  -- a refusal, whatever the stage, leaves the bytes of the file as they were
+  pub refused-leaves : cutOf text six table tags points scene prefixes lines bytes .behind .answer ≡ Refused stage number at → cutOf text six table tags points scene prefixes lines bytes .behind .bytes ≡ bytes
+  unfolding cutOf sheetStage
+  refused-leaves =
+      let t = importOf text freshPen tags points in
+      let r = reportOf (t .ending) in
+      let l = layOf (take (t .pen .tags) (t .tags)) (take (t .pen .points) (t .points)) six scene in
+      either stage number at bytes (eqb (r .number) 0) (laidBy (l .answer) table (l .scene) prefixes lines bytes) (left (Refused Text (r .number) (r .at)) scene prefixes lines bytes) (laid-kept (l .answer) (l .scene)) refl
