@@ -210,10 +210,10 @@ module _ (tags points : List ℕ) (cs : List Command) (e : Finished (left tags p
             | no nz ↦ let o : i ≡ 1 = omega (arith, a, nz) in rw (o, sheets.style-tag drawn words six scene prefixes lines six-long few small)
           ]
           | no g ↦
-            let j : i ≡ 2 + (i - 2) = omega (arith, g) in
-            let b = sheets.drawn-tag drawn words six scene prefixes lines six-long few small (i - 2) (omega (arith, l, g)) in
-            let s = segments-all (i - 2) (omega (arith, l, g)) .low in
-            rw (j, b) (omega (arith, s))
+              let j : i ≡ 2 + (i - 2) = omega (arith, g) in
+              let b = sheets.drawn-tag drawn words six scene prefixes lines six-long few small (i - 2) (omega (arith, l, g)) in
+              let s = segments-all (i - 2) (omega (arith, l, g)) .low in
+              rw (j, b) (omega (arith, s))
         ]
 
     no-path : (i : ℕ) → i ≤ 2 + N → sumsTo (tagWords c) i .«path_ix» ≡ 0

@@ -139,6 +139,11 @@ module _ (drawn points six scene prefixes lines : List ℕ) (six-long : length s
       let at : (c .layout .«style_base» + styleAt c 2) % 2 ^ 32 ≡ W + length points + 6 = omega (arith, few, begins .first-style) in
       record { flags = 0; read = ap (wordAt (c .scene)) at ∙ tail-read 6 (omega arith) ∙ ap found (zeros-behind six 6 (omega (arith, six-long))); no-stroke = refl }
 
+  -- by the nonzero rule
+  pub nonzero : eqb (bit (fill .flags) 0x40000000) 1 ≡ false
+  unfolding fill
+  nonzero = refl
+
   -- ---- what the profile asks besides
 
   -- a word stands where flags are read before the first style

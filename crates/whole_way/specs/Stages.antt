@@ -53,9 +53,9 @@ went-on n true x y e h = (refl, refl)
 went-on n false x y e h = absurd (h e)
 
 module _ (table : Table) (list bytes : List ℕ) (n : ℕ) where
-  pub record Cuts : Type 0 where
-    pub looked : lookOf table 0 (length bytes) list ≡ cut.Whole n
-    pub file : exportStage table list bytes .bytes ≡ exportOf (rangeOf table) 0 (length bytes) list .bytes ++ drop n bytes
+  record Cuts : Type 0 where
+    looked : lookOf table 0 (length bytes) list ≡ cut.Whole n
+    file : exportStage table list bytes .bytes ≡ exportOf (rangeOf table) 0 (length bytes) list .bytes ++ drop n bytes
 
   export-went-on : exportStage table list bytes .answer ≡ Whole n → Cuts
   unfolding exportStage cutReport
@@ -76,7 +76,8 @@ unfolding call.toldOf
 lines-said (Lines k) e = refl
 lines-said (Stopped why tag k) e = absurd (number-some why e)
 
-call-said : (layout : Layout) (scene prefixes lines : List ℕ) → let o = call.callOf layout scene prefixes (freshBox ∷ []) lines in o .answer .number ≡ 0 → o .answer ≡ said 0 0 (o .answer .count)
+-- an answer of number 0 says a count of lines
+pub call-said : (layout : Layout) (scene prefixes lines : List ℕ) → let o = call.callOf layout scene prefixes (freshBox ∷ []) lines in o .answer .number ≡ 0 → o .answer ≡ said 0 0 (o .answer .count)
 unfolding callBy
 call-said layout scene prefixes lines e = lines-said _ e
 
@@ -87,14 +88,20 @@ read-is text tags points (Faulty NotInLanguage i) h e = absurd (omega (arith, e)
 read-is text tags points (Faulty TooLong i) h e = absurd (omega (arith, e))
 read-is text tags points (Undrawn k i) h e = absurd (omega (arith, e, only-room text freshPen tags points k i h))
 
--- what every stage behind the text said of what was drawn, and the bytes afterwards
-pub record Goes (six : List ℕ) (table : Table) (scene prefixes lines bytes : List ℕ) (n : ℕ) (file drawn words : List ℕ) : Type 0 where
+-- what the stages behind the text say of what was drawn, where they accept
+pub record Accept (drawn words six : List ℕ) (table : Table) (scene prefixes lines bytes : List ℕ) (n : ℕ) : Type 0 where
   pub few : sizeOf (length drawn) (length words) < 2 ^ 31
   pub room : sizeOf (length drawn) (length words) ≤ length scene
   pub passed : let c = sheetCall drawn words six scene prefixes lines in toldOf (profileOf (given (c .layout) (c .scene) (c .prefixes))) .number ≡ 0
-  pub accepted : Accepted (sheetCall drawn words six scene prefixes lines)
-  pub cuts : Cuts table (take (accepted .count * 6) (outcome (sheetCall drawn words six scene prefixes lines) .lines)) bytes n
-  pub its-file : file ≡ exportStage table (take (accepted .count * 6) (outcome (sheetCall drawn words six scene prefixes lines) .lines)) bytes .bytes
+  pub flattens : outcome (sheetCall drawn words six scene prefixes lines) .answer .number ≡ 0
+  pub cuts : let o = outcome (sheetCall drawn words six scene prefixes lines) in lookOf table 0 (length bytes) (take (o .answer .count * 6) (o .lines)) ≡ cut.Whole n
+
+-- the call of flattening is accepted
+unfoldable pub accepted-call : (drawn words six : List ℕ) (table : Table) (scene prefixes lines bytes : List ℕ) (n : ℕ) → Accept drawn words six table scene prefixes lines bytes n → Accepted (sheetCall drawn words six scene prefixes lines)
+unfolding sheetCall layoutBy sizeOf
+accepted-call drawn words six table scene prefixes lines bytes n k =
+    let c = sheetCall drawn words six scene prefixes lines in
+    record { u32 = omega (arith, k .few); count = outcome c .answer .count; answer = call-said (c .layout) (c .scene) (c .prefixes) lines (k .flattens) }
 
 -- what the text drew: its tags and the words of its points
 abbrev pub drawn-tags : List ℕ → List ℕ → List ℕ → List ℕ
@@ -113,10 +120,13 @@ module _ (text six : List ℕ) (table : Table) (tags points scene prefixes lines
   abbrev c : Call
   c = sheetCall drawn words six scene prefixes lines
 
-  -- the text was read, and the stages behind it went on
+  -- the text was read, the stages behind it accept, and the bytes are the file before what it leaves
   pub record Went : Type 0 where
     pub read : importOf text freshPen tags points .ending ≡ Read
-    pub goes : Goes six table scene prefixes lines bytes n (cutOf text six table tags points scene prefixes lines bytes .behind .bytes) drawn words
+    pub accept : Accept drawn words six table scene prefixes lines bytes n
+    pub file :
+        cutOf text six table tags points scene prefixes lines bytes .behind .bytes
+        ≡ exportOf (rangeOf table) 0 (length bytes) (take (outcome c .answer .count * 6) (outcome c .lines)) .bytes ++ drop n bytes
 
   abbrev layout : Layout
   layout = layoutOf (length drawn) (length words)
@@ -150,13 +160,13 @@ module _ (text six : List ℕ) (table : Table) (tags points scene prefixes lines
         let w = went-on n (eqb (outcome c .answer .number) 0) _ _ k (no-refusal _ _ _ n) in
         (w .0, ap (λ (l : Left). l .answer) (sym (w .1)) ∙ k, ap (λ (l : Left). l .bytes) (w .1))
 
-    its-call : outcome c .answer .number ≡ 0 → sizeOf (length drawn) (length words) < 2 ^ 31 → Accepted c
-    unfolding sheetCall layoutBy sizeOf
-    its-call z few = record { u32 = omega (arith, few); count = outcome c .answer .count; answer = call-said layout (c .scene) (c .prefixes) lines z }
+    layout-is : eqb (toldOf (profileOf (given (c .layout) (c .scene) (c .prefixes))) .number) 0 ≡ eqb (toldOf (profileOf (given layout (c .scene) (c .prefixes))) .number) 0
+    unfolding sheetCall
+    layout-is = refl
 
     -- where the whole way accepts, every stage did
     pub went : Went
-    unfolding fits its-call
+    unfolding fits
     went =
         let t = text-went-on in
         let s = sheet-went-on (fits (length drawn) (length words) (length scene)) refl (ap (λ (l : Left). l .answer) (sym (t .1)) ∙ e) in
@@ -168,18 +178,18 @@ module _ (text six : List ℕ) (table : Table) (tags points scene prefixes lines
         let below = ltb (sizeOf (length drawn) (length words)) (2 ^ 31) in
         let within = leb (sizeOf (length drawn) (length words)) (length scene) in
         let h : T (below && within) = subst T (sym (s .0)) tt in
-        let few = ltb→lt (sizeOf (length drawn) (length words)) (2 ^ 31) (and-l below within h) in
+        let k = export-went-on table (take (outcome c .answer .count * 6) (outcome c .lines)) bytes n (f .1) in
         record {
           read = read-is text tags points (importOf text freshPen tags points .ending) refl (eqb-true _ _ (t .0));
-          goes =
+          accept =
               record {
-                few = few;
+                few = ltb→lt (sizeOf (length drawn) (length words)) (2 ^ 31) (and-l below within h);
                 room = leb→le (sizeOf (length drawn) (length words)) (length scene) (and-r below within h);
-                passed = unfold sheetCall in eqb-true _ _ (p .0);
-                accepted = its-call (eqb-true _ _ (f .0)) few;
-                cuts = export-went-on table (take (outcome c .answer .count * 6) (outcome c .lines)) bytes n (f .1);
-                its-file = ap (λ (l : Left). l .bytes) at-flatten ∙ f .2;
+                passed = eqb-true _ _ (layout-is ∙ p .0);
+                flattens = eqb-true _ _ (f .0);
+                cuts = k .looked;
               };
+          file = ap (λ (l : Left). l .bytes) at-flatten ∙ f .2 ∙ k .file;
         }
 
 -- ---- a refusal
