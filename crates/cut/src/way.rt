@@ -79,9 +79,9 @@ fn profile_stage(
     ensures { λ r. ⌜ left r (now (scene .entry)) (now (prefixes .entry)) (now (lines .exit)) (now (bytes .exit))
         ≡ profileStage layout table (now (scene .entry)) (now (prefixes .entry)) (now (lines .entry)) (now (bytes .entry)) ⌝ }
 {
-    let told = test_scene(layout, scene, prefixes).told();
-    if told.number != 0 {
-        return Answer::Refused(Stage::Profile, told.number, told.tag);
+    let verdict = test_scene(layout, scene, prefixes).told();
+    if verdict.number != 0 {
+        return Answer::Refused(Stage::Profile, verdict.number, verdict.tag);
     }
     flatten_stage(layout, table, scene, prefixes, lines, bytes)
 }
