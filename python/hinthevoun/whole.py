@@ -1,15 +1,17 @@
 """The whole way in one call: path data of an SVG as a file for the knife table, as include/hinthevoun.h has it."""
+import ctypes
 from array import array
+from contextlib import ExitStack
 from enum import IntEnum
 from typing import Dict, Sequence
 
 from .buffers import Buffer
-from .calls import WORDS_OF_A_LINE, WORDS_OF_A_PREFIX
+from .calls import WORDS_OF_A_LINE, WORDS_OF_A_PREFIX, lent_lists, words_of_span
 from .cutting import Table
 from .drawing import TAGS_OF_A_WORKGROUP, six
 from .flattening import BYTES_OF_A_LINE, WORDS_OF_A_WORKGROUP, pages_for, room_for
 from .importing import NOT_IMPORTED
-from .parts import cut_text_by_parts
+from .opening import load
 from .profiling import RULES
 from .refusals import REASONS, UNKNOWN, Reason
 from .sheets import memory
@@ -86,8 +88,13 @@ def cut_text(text: bytes, transform: Sequence[float], table: int, tags: Buffer, 
 
     Raises NotCutText where a part refuses.
     """
-    numbers, table = six(transform), Table(table)
-    number, count, stage, place = cut_text_by_parts(text, numbers, table, tags, points, scene, prefixes, lines, file)
+    numbers, table, out = six(transform), Table(table), (ctypes.c_uint64 * 3)()
+    with ExitStack() as stack:
+        written = {"tags": tags, "points": points, "scene": scene, "prefixes": prefixes, "lines": lines, "file": file}
+        data, drawn, *words, room = lent_lists(stack, {"text": text}, written, ("text", "tags", "file"))
+        lent = [number for span in words for number in words_of_span(span)]
+        number = load().hinth_cut_text(*data, *numbers, table, *drawn, *lent, *room, out, len(out))
+    count, stage, place = out
     if number:
         raise NotCutText(number, stage, place)
     return count

@@ -8,6 +8,7 @@ from fractions import Fraction
 
 from hinthevoun import NotCutText, Stage, Table, cut_text, read_cut
 from hinthevoun.svg.page import scale_of
+from parts import cut_text_by_parts
 from support import ROOT, hinth, holds, in_folder, same
 
 BRIM = "samples/brim.svg"
@@ -89,6 +90,39 @@ class Function(unittest.TestCase):
         same(Lent().cut(b"M0 0L32767.5 0Z"), b"IN;PU0,0;PD32768,0;PD0,0;")
         self.assertRaises(ValueError, Lent().cut, TRIANGLE, table=2)
         self.assertRaises(ValueError, Lent().cut, TRIANGLE, transform=(1, 0, 0, 1, 0))
+
+
+def random_text(chance):
+    """Path data with small numbers, sometimes damaged."""
+    def pair():
+        return f"{chance.randrange(-40, 40) / 4:g} {chance.randrange(-40, 40) / 4:g}"
+    text = f"M{pair()}" + "".join(f"{kind}{' '.join(pair() for _ in range(points))}" for kind, points in chance.choices(
+        [("L", 1), ("Q", 2), ("C", 3), ("Z", 0), ("M", 1)], k=chance.randrange(8)))
+    if chance.randrange(4) == 0:
+        at = chance.randrange(len(text))
+        text = text[:at] + chance.choice("hV,.-1e ") + text[at + 1:]
+    return text.encode()
+
+
+class Parts(unittest.TestCase):
+    """The call leaves and tells what its parts do, one after the other."""
+
+    def test_random_texts_with_little_room(self):
+        chance, seen = random.Random(31), set()
+        for _ in range(2000):
+            text, table = random_text(chance), chance.choice(list(Table))
+            transform = [chance.choice((1, -3, 0.5, 40000)), *chance.choices((0, 1), (20, 1), k=2), chance.choice((1, -2)), 7, 0.5]
+            room = {name: chance.choice((most, most, chance.randrange(most))) for name, most in
+                    (("tags", 12), ("points", 80), ("scene", 160), ("prefixes", 256), ("lines", 3000), ("file", 9000))}
+            ours, theirs = Lent(**room), Lent(**room)
+            told = ours.cut(text, transform, table)
+            by_parts = cut_text_by_parts(text, transform, table, **vars(theirs))
+            file = bytes(theirs.file[:by_parts.count])
+            same((text, room, told), (text, room, (by_parts.number, by_parts.stage, by_parts.place) if by_parts.number else file))
+            same({name: bytes(buffer) for name, buffer in vars(ours).items()},
+                 {name: bytes(buffer) for name, buffer in vars(theirs).items()})
+            seen.add((by_parts.stage, by_parts.number))
+        assert seen >= {(0, 0), (1, 60), (1, 21), (2, 80), (4, 3), (4, 73), (5, 6), (6, 30), (6, 31)}, seen
 
 
 class Sample(unittest.TestCase):

@@ -1,15 +1,15 @@
 """The whole way by its parts: what each function of the library leaves, one after the other, and a file written here."""
 import struct
 from array import array
-from typing import List, NamedTuple, Optional, Sequence, Tuple
+from typing import NamedTuple, Optional, Sequence, Tuple
 
-from .buffers import Buffer
-from .calls import WORDS_OF_A_LINE, Layout, empty_boxes, flatten, scan
-from .cutting import REACH, START, Table
-from .importing import NotImported, import_path
-from .pattern import Pen
-from .profiling import NotPassed, profile
-from .refusals import Refusal
+from hinthevoun.buffers import Buffer
+from hinthevoun.calls import WORDS_OF_A_LINE, Layout, empty_boxes, flatten, scan
+from hinthevoun.cutting import REACH, START, Table
+from hinthevoun.importing import NotImported, import_path
+from hinthevoun.pattern import Pen
+from hinthevoun.profiling import NotPassed, profile
+from hinthevoun.refusals import Refusal
 
 TEXT, SHEET, PROFILE, FLATTEN, CUT = 1, 2, 4, 5, 6
 BEFORE, BEHIND = bytes([0x20, 0x40]), bytes([0x10])
@@ -35,10 +35,9 @@ def cut_text_by_parts(text: bytes, transform: Sequence[float], table: Table, tag
         if len(sheet) > len(scene):
             return Told(80, 0, SHEET, len(sheet) if len(sheet) < 2**31 else 0)
         scene[:len(sheet)] = sheet
-        whole = memoryview(scene)[:len(sheet)]
-        scan(whole, layout.tag_base, prefixes)
-        profile(*layout, whole, prefixes)
-        count = flatten(*layout, whole, prefixes, empty_boxes(1), lines)
+        scan(scene, layout.tag_base, prefixes)
+        profile(*layout, scene, prefixes)
+        count = flatten(*layout, scene, prefixes, empty_boxes(1), lines)
     except NotImported as why:
         return Told(why.number, 0, TEXT, why.byte)
     except NotPassed as why:
