@@ -294,6 +294,7 @@ pub fn run(report: &mut Report, extent: Extent) {
     report.check("whole: random patterns, as by their parts", || random_patterns(extent));
     report.check("whole: room exactly enough and one short, by each list", exact);
     report.check("whole: the 4,096th and the 4,097th segment, and tags that just fill their workgroups", limits);
+    report.check("whole: numbers near the ends of both tables", ends);
     report.check("whole: at most 1.3 times its parts", in_time);
 }
 
@@ -380,6 +381,38 @@ fn limits() -> Tally {
         }
     }
     tally
+}
+
+/// Each end of a table with what lies up to two units away, as each coordinate of an outline.
+fn ends() -> Tally {
+    let mut tally = Tally::default();
+    for (end, quarters) in
+        [-8388608, -32767, 32767, 8388607].into_iter().flat_map(|end| (-8..=8).map(move |n| (end, n)))
+    {
+        let number = f64::from(end) + f64::from(quarters) / 4.0;
+        for text in [
+            format!("M{number} 0L0 1L1 1Z"),
+            format!("M0 {number}L0 1L1 1Z"),
+            format!("M0 0L{number} 1L1 1Z"),
+            format!("M0 0L1 0Q1 {number} 0 {number}Z"),
+        ] {
+            for table in [Table::Old, Table::New] {
+                let (text, transform) = (text.clone().into_bytes(), [1.0, 0.0, 0.0, 1.0, 0.0, 0.0]);
+                let told = compare(&mut tally, &Asked { text, transform, table, rooms: AMPLE });
+                tally.count(told.is_ok() == taken(table, number), || format!("{number} by {table:?}: {told:?}"));
+            }
+        }
+    }
+    tally
+}
+
+/// Whether a table takes a number, which becomes an f32 and then the nearest whole one, ties to even.
+fn taken(table: Table, number: f64) -> bool {
+    let nearest = f64::from(number as f32).round_ties_even();
+    match table {
+        Table::Old => nearest.abs() <= 32767.0,
+        Table::New => (-8388608.0..=8388607.0).contains(&nearest),
+    }
 }
 
 // ---- time
