@@ -8,6 +8,7 @@ from fractions import Fraction
 
 from hinthevoun import NotCutText, Stage, Table, cut_text, read_cut
 from hinthevoun.svg.page import scale_of
+from hinthevoun.whole import Room
 from parts import cut_text_by_parts
 from support import ROOT, hinth, holds, in_folder, same
 
@@ -123,6 +124,17 @@ class Parts(unittest.TestCase):
                  {name: bytes(buffer) for name, buffer in vars(theirs).items()})
             seen.add((by_parts.stage, by_parts.number))
         assert seen >= {(0, 0), (1, 60), (1, 21), (2, 80), (4, 3), (4, 73), (5, 6), (6, 30), (6, 31)}, seen
+
+
+class Rooms(unittest.TestCase):
+    """The room that the package lends."""
+
+    def test_no_text_is_refused_for_want_of_room(self):
+        for part in (b"L1-1Z", b"L.5.5", b"-1-1", b"M1 1 2 2", b"M1-1-2-2Z", b"Q1-1-2-2Z", b"C1-1-2-2-3-3Z", b"L1 2\n", b"Z"):
+            for times in (0, 1, 2, 63, 64, 126, 127, 128, 1000):
+                text = b"M0-0" + part * times
+                file = Room(text).cut(text, IDENTITY, Table.NEW)
+                same(file.count(b"PU") > 0, times > 0 and part != b"Z")
 
 
 class Sample(unittest.TestCase):
