@@ -24,7 +24,7 @@ const UNTOUCHED: i32 = 0x5a5a_5a5a;
 
 fn takes(table: Table, value: i64) -> bool {
     match table {
-        Table::Old => value.abs() < 1 << 15,
+        Table::Old => (-32767..=32767).contains(&value),
         Table::New => value >> 23 == 0 || value >> 23 == -1,
     }
 }
