@@ -56,7 +56,7 @@ def piece_of(name: str, data: bytes, wanted: Optional[str], scale: Optional[Frac
 
 def chosen(name: str, document: Document, wanted: Optional[str]) -> Found:
     """The one path that is meant. Raises Wrong or NotPlaced."""
-    meant = [shape for shape in document.found if wanted in (None, shape.own_id)]
+    meant = [shape for shape in document.found if wanted is None or (wanted and shape.own_id == wanted)]
     if not meant and wanted is not None:
         raise Wrong(f"{name}: no path has the id {printable(wanted)!r}; {ids_told(document.found)}")
     if not meant:
@@ -130,24 +130,21 @@ def about_reach(line: memoryview, data: bytes, page: Page, table: Table) -> str:
     """Which coordinate of a line the table does not take, in plotter units and in the document's, and what to do."""
     tag = line[1]
     which, axis, value, point = outside_of(struct.unpack("=4f", bytes(line[2:6])), table)
-    told = f"{which}'s {axis} is {value:.9g} plotter units"
+    told = f"the {which} of a line has {axis} = {value:.9g} plotter units"
     if all(map(math.isfinite, point)):
         x, y = page.on_page(*map(Fraction, point))
         told += f", {value / PLOTTER_UNITS:.9g} mm, at ({decimal(x)}, {decimal(y)}) of the document"
     cure = "make the piece smaller, move it nearer to what is the table's 0,0"
     cure += ", or cut it for the new table" if table == Table.OLD else ", or part it"
-    return (f"refused {OUT_OF_REACH}{segment_told(data, tag)}: a line's {told}, and the {table.name.lower()} table takes "
+    return (f"refused {OUT_OF_REACH}{segment_told(data, tag)}: {told}, and the {table.name.lower()} table takes "
             f"{reach_of(table)}; {cure}")
 
 
 def outside_of(numbers: Tuple[float, ...], table: Table) -> Tuple[str, str, float, Tuple[float, ...]]:
     """The first coordinate of a line that a table does not take: of which end, x or y, its value, and that end."""
     least, greatest = REACH[table]
-    for which, end in (("start", numbers[:2]), ("end", numbers[2:])):
-        for axis, value in zip("xy", end):
-            if not (math.isfinite(value) and least <= round(value) <= greatest):
-                return which, axis, value, end
-    raise AssertionError("the library refused a line that the table takes")
+    return next((which, axis, value, end) for which, end in (("start", numbers[:2]), ("end", numbers[2:]))
+                for axis, value in zip("xy", end) if not (math.isfinite(value) and least <= round(value) <= greatest))
 
 
 def sentences_of(name: str, piece: Piece) -> List[str]:

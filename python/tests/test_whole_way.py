@@ -271,6 +271,7 @@ class Drawings(unittest.TestCase):
         missing = hinth("cut", "-", "--path", "c", data=document(*both))
         same((missing.status, missing.out), (2, b""))
         holds(missing.said, "no path has the id 'c'; the ids of its paths are a, b")
+        holds(hinth("cut", "-", "--path", "", data=document(*both)).said, "no path has the id ''")
         holds(self.refuses(path(more="id='a'"), path(more="id='a'"), options=("--path", "a")), "2 elements have the id 'a'")
         holds(self.refuses(*[path(more=f"id='p{n}'") for n in range(30)]), "p18, p19, and 10 more")
         holds(self.refuses(path(more=""), path(more="")), "none of its paths has an id")
@@ -301,21 +302,31 @@ class Drawings(unittest.TestCase):
 
     def test_a_piece_that_the_table_does_not_take(self):
         said = self.refuses(path("M10 10L1000 10L10 40Z"), options=("--table", "old"))
-        holds(said, "path 'p' (line 1): refused 30 at segment 1 of its path data, which is over at byte 14, behind '0 10L1000 10': a "
-                    "line's end's x is 40000 plotter units, 1000 mm, at (1000, 10) of the document, and the old table takes -32767 to "
+        holds(said, "path 'p' (line 1): refused 30 at segment 1 of its path data, which is over at byte 14, behind '0 10L1000 10': the "
+                    "end of a line has x = 40000 plotter units, 1000 mm, at (1000, 10) of the document, and the old table takes -32767 to "
                     "32767; make the piece smaller, move it nearer to what is the table's 0,0, or cut it for the new table")
         same(self.cuts(path("M10 10L1000 10L10 40Z"))[0][:27], b"IN;PU400,1600;PD40000,1600;")
         said = self.refuses(path("M10 10L20 10L10 -900Z"), options=("--table", "old"))
         holds(said, "at segment 2 of its path data")
-        holds(said, "end's y is 38000 plotter units, 950 mm, at (10, -900) of the document")
+        holds(said, "the end of a line has y = 38000 plotter units, 950 mm, at (10, -900) of the document")
         said = self.refuses(path("M999999 10L1000000 10L10 40Z"), options=("--table", "new"))
-        holds(said, "start's x is 39999960 plotter units")
+        holds(said, "the start of a line has x = 39999960 plotter units")
         holds(said, "the new table takes -8388608 to 8388607; make the piece smaller, move it nearer to what is the table's 0,0, or part it")
 
     def test_numbers_that_grow_too_large(self):
         holds(self.refuses(path(more="transform='scale(1e200)'")), "is not cut: its transform has a number that is too large")
         said = self.refuses(path("M0 0C900000000 0 900000000 0 900000000 900000000Z", "id='p' transform='scale(1e30)'"))
         assert re.search(r"path 'p' \(line 1\): refused [58] at segment 1 of its path data, which is over at byte 48, ", said), said
+
+    def test_numbers_of_any_size_get_a_sentence(self):
+        long = "9" * 5000
+        holds(self.refuses(path(), attributes="width='1e999mm' height='1mm' viewBox='0 0 1 1'"), "a unit is inf mm, and by its height 1 mm")
+        holds(self.refuses(path(), attributes="width='1e999mm' height='1e999mm' viewBox='0 0 1 1'"), "a number that is too large")
+        holds(self.refuses(path(), attributes=f"width='1mm' height='1mm' viewBox='0 0 1 {long}'"), "is not four numbers")
+        holds(self.refuses(path(), attributes=f"width='{long}mm' height='1mm' viewBox='0 0 1 1'"), "that is no length")
+        holds(self.refuses(path(more=f"transform='scale({long})'")), "has something else than plain numbers")
+        same(hinth("cut", BRIM, "--scale", long).status, 2)
+        holds(self.refuses(path(), attributes="viewBox='0 0 1e999 1'", options=("--scale", "9" * 90)), "a number that is too large")
 
     def test_a_path_that_draws_nothing_is_told(self):
         file, said = self.cuts(path("M5 5"))

@@ -3,11 +3,12 @@
 SVG's y points down and the table's points up. So y is turned round at the lower edge of the page, and a piece is cut as it
 looks on the screen, not as its mirror image.
 """
+import math
 import re
 from fractions import Fraction
 from typing import Dict, NamedTuple, Optional, Tuple
 
-from ..saying import printable
+from ..saying import quoted
 from .document import Document, style_of
 from .placing import Matrix, NotPlaced
 
@@ -19,9 +20,11 @@ USER_UNITS = ("", "px")
 # a piece of one metre this is a micrometre, a twenty-fifth of a plotter unit.
 AGREEING = Fraction(1, 1_000_000)
 
-_NUMBER = r"[+-]?(?:\d+\.?\d*|\.\d+)(?:[eE][+-]?\d{1,3})?"
+# As many digits as in a transform.
+_DECIMAL = r"(?:\d{1,99}\.?\d{0,99}|\.\d{1,99})"
+_NUMBER = rf"[+-]?{_DECIMAL}(?:[eE][+-]?\d{{1,3}})?"
 _LENGTH = re.compile(rf"\s*({_NUMBER})\s*([A-Za-z%]*)\s*")
-_SCALE = re.compile(r"(\d+\.?\d*|\.\d+)(?:/(\d+\.?\d*|\.\d+))?")
+_SCALE = re.compile(rf"({_DECIMAL})(?:/({_DECIMAL}))?")
 _SIZE_IN_CSS = re.compile(r"(?<![\w-])(width|height)\s*:", re.I)
 
 ASK = "say how many millimetres a unit of it has, with --scale"
@@ -80,8 +83,11 @@ class Page(NamedTuple):
 
 
 def decimal(number: Fraction) -> str:
-    """At most nine digits."""
-    return f"{float(number):.9g}"
+    """At most nine digits; more than any f64 is told as an infinity."""
+    try:
+        return f"{float(number):.9g}"
+    except OverflowError:
+        return f"{math.inf if number > 0 else -math.inf}"
 
 
 def scale_of(word: str) -> Fraction:
@@ -123,7 +129,7 @@ def view_of(attributes: Dict[str, str]) -> Optional[View]:
     parts = re.split(r"\s*,\s*|\s+", said.strip())
     numbers = [Fraction(part) for part in parts if re.fullmatch(_NUMBER, part)]
     if len(parts) != 4 or len(numbers) != 4 or min(numbers[2:]) <= 0:
-        raise NotPlaced(f"its viewBox {printable(said)!r} is not four numbers of which the last two are above zero")
+        raise NotPlaced(f"its viewBox {quoted(said.encode())} is not four numbers of which the last two are above zero")
     return View(*numbers)
 
 
@@ -162,7 +168,7 @@ def millimetres_of(attributes: Dict[str, str], side: str) -> Fraction:
     if length is None or length.unit not in MILLIMETRES:
         why = "programs differ in how many px make an inch: 96, 90 or 72" if length and length.unit in USER_UNITS else \
             "that is no length in mm, cm, in, pt, pc or Q"
-        raise NotPlaced(f"its {side} is {printable(said)!r}, and {why}; {ASK}")
+        raise NotPlaced(f"its {side} is {quoted(said.encode())}, and {why}; {ASK}")
     if length.number <= 0:
-        raise NotPlaced(f"its {side} is {printable(said)!r}, which is not above zero; {ASK}")
+        raise NotPlaced(f"its {side} is {quoted(said.encode())}, which is not above zero; {ASK}")
     return length.number * MILLIMETRES[length.unit]
