@@ -165,6 +165,18 @@ class Sample(unittest.TestCase):
         same(hinth("cut", "-", "--path", 0, data=lines).out, hinth("cut", BRIM).out)
 
 
+    def test_the_drawings_of_the_import(self):
+        for name, options, status, said in (
+                ("inkscape", ("--path", "pad"), 0, "60 lines in 1 chain, 8 mm wide and 8 mm high"),
+                ("inkscape", (), 1, "the ids of its paths are brim, pad"), ("inkscape", ("--path", "brim"), 1, "evenodd"),
+                ("illustrator", ("--path", "liner_1_"), 1, "its width is '425.2px'"),
+                ("illustrator", ("--path", "liner_1_", "--scale", "25.4/72"), 0, "112.525 mm wide and 110.05 mm high"),
+                ("relative", ("--scale", 1), 1, "path 'strap' (line 3): refused 60 at byte 16 of its path data")):
+            result = hinth("cut", f"samples/import/{name}.svg", *options)
+            same((name, options, result.status, result.out[:3]), (name, options, status, b"" if status else b"IN;"))
+            holds(result.said, said)
+
+
 class Drawings(unittest.TestCase):
     """What hinth cut makes of drawings, and says."""
 
