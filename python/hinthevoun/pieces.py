@@ -16,6 +16,7 @@ from .picture.drawing import Under, Wishes
 from .picture.paper import picture_of
 from .saying import count, printable
 from .svg.document import Document, Found, document_of
+from .svg.outlines import left_open
 from .svg.page import PLOTTER_UNITS, Page, decimal, page_of
 from .svg.placing import Matrix, NotPlaced, floats_of
 from .svg.telling import about_path_data, behind
@@ -153,7 +154,16 @@ def sentences_of(name: str, piece: Piece) -> List[str]:
     drawn = f"{count(len(lines) // 4, 'line')} in {count(piece.file.count(b'PU'), 'chain')}"
     size = f", {span_of(lines, 0)} mm wide and {span_of(lines, 1)} mm high" if lines else ", so the file cuts nothing"
     return [f"{name}: {piece.shape.name}: {drawn}{size}, for the {piece.table.name.lower()} table",
+            *(f"{name}: {piece.shape.name}: {sentence}" for sentence in about_open(left_open(piece.shape.data.decode()))),
             f"{name}: {piece.page.sentence}; the table's 0,0 is {piece.page.corner}; the piece is cut as it looks on the screen"]
+
+
+def about_open(outlines: int) -> List[str]:
+    """That a cut was added which is not drawn, if one was."""
+    if not outlines:
+        return []
+    return [f"{count(outlines, 'outline')} {'is' if outlines == 1 else 'are'} open in the drawing, and closed by a straight cut back to "
+            f"{'its start' if outlines == 1 else 'the start of each'}"]
 
 
 def span_of(lines: "array[int]", axis: int) -> str:

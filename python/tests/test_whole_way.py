@@ -7,6 +7,7 @@ from array import array
 from fractions import Fraction
 
 from hinthevoun import NotCutText, Stage, Table, cut_text, read_cut
+from hinthevoun.svg.outlines import left_open
 from hinthevoun.svg.page import scale_of
 from hinthevoun.whole import Room
 from parts import cut_text_by_parts
@@ -329,6 +330,16 @@ class Drawings(unittest.TestCase):
         holds(self.refuses(path(more="transform='scale(1e200)'")), "is not cut: its transform has a number that is too large")
         said = self.refuses(path("M0 0C900000000 0 900000000 0 900000000 900000000Z", "id='p' transform='scale(1e30)'"))
         assert re.search(r"path 'p' \(line 1\): refused [58] at segment 1 of its path data, which is over at byte 48, ", said), said
+
+    def test_an_outline_that_is_left_open_is_told(self):
+        result = hinth("cut", "-", data=document(path("M10 10L30 10L10 40")))
+        same((result.status, result.out), (0, self.cuts(path("M10 10L30 10L10 40Z"))[0]))
+        holds(result.said, "path 'p' (line 1): 1 outline is open in the drawing, and closed by a straight cut back to its start\n")
+        for data, outlines in (("M0 0L1 1L0 1Z", 0), ("M0 0L1 1L0 0", 0), ("M0 0L1 1L0.0-0", 0), ("M0 0L1 1M5 5L6 6", 2), ("M0 0M1 1", 0), ("", 0),
+                               ("M0 0 1 1 0 1", 1), ("M0 0L1 1ZL2 2", 1), ("M0 0L1 1ZL2 2Z", 0), ("M0 0C1 1 2 2 3 3M1 1L2 2Z", 1)):
+            same((data, left_open(data)), (data, outlines))
+        holds(hinth("cut", "-", data=document(path("M0 0L1 1M5 5L6 6"))).said, "2 outlines are open in the drawing, and closed by a "
+                                                                               "straight cut back to the start of each")
 
     def test_numbers_of_any_size_get_a_sentence(self):
         long = "9" * 5000

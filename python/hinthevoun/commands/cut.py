@@ -49,7 +49,8 @@ Drawings    A plotter unit is 0.025 mm, 40 to a millimetre, and the scale is sai
             SVG's y points down and the table's up, so y is turned round: the piece is cut as it looks on the screen. The
             page's lower left corner is the table's 0,0; without a viewBox and a height in units or px the document's 0,0 is.
             Transforms of the path and its groups hold, and may move, scale and mirror it; one that turns or slants it is
-            refused (73), and so is the fill rule evenodd. One path becomes one file, and paths are never put together.
+            refused (73), and so is the fill rule evenodd. One path becomes one file, and paths are never put together. An
+            outline that the drawing leaves open is closed by a straight cut, as a fill is, and that is said.
             Path data is read, tested against the profile for lay-up sheets, flattened and written by one call of the
             proved library. A refusal names the element, the byte of its path data or the coordinate, and what to do.
 Lists       A unit of the list is a plotter unit, and nothing is turned round. Where a coordinate is no number or, rounded,

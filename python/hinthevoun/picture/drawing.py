@@ -1,5 +1,4 @@
 """Drawing: the marks of a picture, as SVG."""
-import re
 from collections import Counter
 from itertools import accumulate, groupby, islice
 from typing import Callable, Iterable, Iterator, List, NamedTuple, Optional, Sequence, Tuple
@@ -8,6 +7,7 @@ from xml.sax.saxutils import escape
 from ..columns import Lines, finite_points, place_of, places_of
 from ..mending import APPENDED
 from ..saying import count
+from ..svg.outlines import commands_of
 from . import ink
 from .counting import Found, Outline, boxes_shown, chains_of, kinds_of, runs_of, shared_and_alone
 from .geometry import Frame, Place, heads_along
@@ -30,8 +30,6 @@ MOST_LINES = 1000
 MOST_TAGS = 20_000
 # The outline of a drawing under its lines.
 UNDER_COLOUR, UNDER_WIDTH = "#f5cf9a", 7
-# The letters and the numbers of path data that the library takes.
-PATH_DATA = re.compile(r"[MLQCZ]|[+-]?(?:\d*\.\d+|\d+)")
 # Where one tag is asked for: how wide its lines are in one list, and how much is left of the colour of all others.
 STRONG, PALE = 5, 0.45
 
@@ -236,16 +234,9 @@ def under_drawn(under: Under, frame: Frame) -> str:
     """The outline under the lines. The pointer goes through it, to a line."""
     a, b, c, d, e, f = under.matrix
     parts: List[str] = []
-    x: Optional[float] = None
-    for token in PATH_DATA.findall(under.data):
-        if token.isalpha():
-            parts.append(token)
-        elif x is None:
-            x = float(token)
-        else:
-            y = float(token)
-            parts.append(pair(frame.at((a * x + c * y + e, b * x + d * y + f))))
-            x = None
+    for letter, numbers in commands_of(under.data):
+        places = [(a * x + c * y + e, b * x + d * y + f) for x, y in zip(numbers[0::2], numbers[1::2])]
+        parts += [letter, *(pair(frame.at(place)) for place in places)]
     return inked([f'<path d="{" ".join(parts)}"/>'], UNDER_COLOUR, UNDER_WIDTH, ' class="under" pointer-events="none"')
 
 
