@@ -1,12 +1,11 @@
 -- Each stage by what its part answered: refused, or on to the next. Assumes nothing.
-use Prim.Native.Nat.{ℕ, zero, suc, _*_, _≤_, min}
+use Prim.Native.Nat.{ℕ, _*_, _≤_, min}
 use native.Mathlib.Nat.{min-eq-left, min-eq-right, min-le-right}
 use native.Mathlib.Decide.{decLe}
 use native.Mathlib.Omega.{arith}
 use mathlib.Core.Path.{_≡_, sym, ap, _∙_, subst}
-use mathlib.Core.Bool.{true, false}
-use mathlib.Core.List.{List, [], _∷_, _++_}
-use lib.ListN.{length, take, drop}
+use mathlib.Core.List.{List, [], _∷_}
+use lib.ListN.{length, take}
 use lib.Seq.{take-all, length-take-le}
 use borrow.Author.Tests.{eq-eqb, ne-eqb}
 use Rattle.refusals.specs.Refusals.{numberOf}
@@ -16,7 +15,7 @@ use Rattle.pattern.specs.declared.pen.Pen.{Pen}
 use Rattle.svg.specs.Import.{told, importOf, reportOf}
 use Rattle.svg.specs.declared.reader.Done.{Done}
 use Rattle.svg.specs.declared.reader.Report as Text
-use Rattle.scene.specs.Tags.{Scan, scanTold, scanOf}
+use Rattle.scene.specs.Tags.{scanTold, scanOf}
 use Rattle.scene.specs.declared.tags.Scanned.{Scanned}
 use Rattle.scene.specs.declared.tags.Scanned.the-variants.{Filled, PastEnd}
 use Rattle.profile.specs.Reads.{given}
@@ -30,8 +29,7 @@ use Rattle.flatten.specs.declared.boxes.PathBox.{PathBox}
 use Rattle.flatten.specs.declared.call.Layout.{Layout}
 use Rattle.flatten.specs.declared.call.Answer as flattened
 use Rattle.flatten.specs.declared.call.Told as Told
-use Rattle.hpgl.specs.Form.{rangeOf}
-use Rattle.hpgl.specs.Export.{outcome, cutOf as exportedOf, lookOf, exportOf, cutReport}
+use Rattle.hpgl.specs.Export.{outcome, cutOf as exportedOf, lookOf, cutReport}
 use Rattle.hpgl.specs.Export as export
 use Rattle.hpgl.specs.Looks.{look-cuts}
 use Rattle.hpgl.specs.declared.Report.{Report}

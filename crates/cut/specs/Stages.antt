@@ -4,7 +4,6 @@ use mathlib.Core.Bool.{cond}
 use mathlib.Core.List.{List, [], _∷_, _++_}
 use lib.Dec.{eqb}
 use lib.ListN.{length, take, drop}
-use Rattle.refusals.specs.Refusals.{numberOf}
 use Rattle.pattern.specs.Meaning.{freshPen}
 use Rattle.svg.specs.Import.{importOf, reportOf as textReport}
 use Rattle.scene.specs.Tags.{scanOf}
@@ -16,7 +15,7 @@ use Rattle.flatten.specs.declared.call.Layout.{Layout}
 use Rattle.hpgl.specs.Form.{rangeOf}
 use Rattle.hpgl.specs.Export.{exportOf, lookOf, cutReport}
 use Rattle.hpgl.specs.declared.Table.{Table}
-use Rattle.cut.specs.Sheet.{Lay, layOf}
+use Rattle.cut.specs.Sheet.{layOf}
 use Rattle.cut.specs.declared.sheet.Laid.{Laid}
 use Rattle.cut.specs.declared.sheet.Laid.the-variants as lay
 use Rattle.cut.specs.declared.Stage.{Stage}

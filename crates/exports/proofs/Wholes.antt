@@ -1,6 +1,6 @@
 -- What was told of the whole way, written to `out`, is its report. Assumes nothing.
 use Prim.Native.Nat.{ℕ}
-use mathlib.Core.Path.{_≡_, sym, ap, _∙_}
+use mathlib.Core.Path.{_≡_, ap, _∙_}
 use mathlib.Core.List.{List}
 use Rattle.hpgl.specs.declared.Table.{Table}
 use Rattle.cut.specs.Sheet.{sixOf}

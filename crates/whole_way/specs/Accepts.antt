@@ -1,35 +1,31 @@
 -- Which inputs the whole way accepts, in terms of the parts' own conditions: the converse. Assumes nothing.
-use Prim.Native.Nat.{ℕ, _+_, _*_, _^_, _<_, _≤_}
+use Prim.Native.Nat.{ℕ, _+_, _*_, _^_, _<_}
 use mathlib.Core.Path.{_≡_, refl, sym, ap, _∙_, subst}
-use mathlib.Core.Bool.{true}
 use mathlib.Core.List.{List, _++_}
 use native.Mathlib.Omega.{arith}
 use lib.ListN.{length, getD, take}
 use borrow.Author.Tests.{eq-eqb, lt-ltb, le-leb}
 use Rattle.pattern.specs.Commands.{Outcome, numberOf}
 use Rattle.pattern.specs.Meaning.{freshPen, fresh}
-use Rattle.svg.specs.Language.{Means}
 use Rattle.svg.specs.Language.{Command as Svg}
-use Rattle.svg.specs.Meaning.{meaning, allOf}
+use Rattle.svg.specs.Meaning.{meaning}
 use Rattle.svg.specs.Import.{importOf, reportOf}
 use Rattle.svg.specs.declared.reader.Ending.the-variants.{Accepted as Read}
 use Rattle.svg.specs.Imports.{all-after, text-accepted}
 use Rattle.scene.specs.Tags.{scanOf, filled}
 use Rattle.scene.specs.Fresh.{byteOf}
-use Rattle.profile.specs.Rules.{straight}
 use Rattle.profile.specs.Reads.{given}
 use Rattle.profile.specs.Verdict.{profileOf, toldOf}
 use Rattle.profile.specs.declared.sheet.Verdict.{Verdict}
 use Rattle.laid_up.specs.Patterns.{LayUp}
 use Rattle.laid_up.specs.Passing.{drawn-passes}
 use Rattle.imported.specs.Lines.{meaning-finishes}
-use Rattle.outlines.specs.Placing.{left, Finished, drawnTags, drawnPoints}
+use Rattle.outlines.specs.Placing.{left, Finished}
 use Rattle.outlines.specs.Placing as placing
 use Rattle.watertight.specs.Fill.{Call, outcome}
 use Rattle.watertight.specs.Fill as fills
-use Rattle.hpgl.specs.Export.{lookOf, cutReport}
+use Rattle.hpgl.specs.Export.{cutReport}
 use Rattle.hpgl.specs.declared.Table.{Table}
-use Rattle.hpgl.specs.declared.export.Cut.the-variants as cut
 use Rattle.cut.specs.Sheet.{tagBytes, sixOf, fillStyle, layoutBy, tagWords, sizeOf, fits, layOf}
 use Rattle.cut.specs.Stages.{exportStage, flattenStage, profileStage, scanStage, laidBy, sheetStage, cutOf}
 use Rattle.cut.specs.declared.sheet.Six.{Six}
@@ -37,7 +33,7 @@ use Rattle.cut.specs.declared.Answer.the-variants.{Whole}
 use Rattle.whole_way.specs.Calls.{sceneOf, sheetCall}
 use Rattle.whole_way.specs.Sheets as sheets
 use Rattle.whole_way.specs.Drawn as drawn
-use Rattle.whole_way.specs.Stages.{Accept, drawn-tags, drawn-words}
+use Rattle.whole_way.specs.Conditions.{drawn-tags, drawn-words, Accept, tagsBy, wordsBy, Conditions}
 
 -- ---- stage by stage
 
@@ -77,32 +73,6 @@ exactly text six table tags points scene prefixes lines bytes n read k =
     rw read (sheet-accepts (drawn-tags text tags points) (drawn-words text tags points) six table scene prefixes lines bytes n k)
 
 -- ---- in terms of the parts' own conditions
-
--- what the commands of a text leave: its tags and the words of its points
-abbrev pub tagsBy : List ℕ → List ℕ → List Svg → List ℕ
-tagsBy tags points commands = drawnTags (left tags points (meaning commands))
-
-abbrev pub wordsBy : List ℕ → List ℕ → List Svg → List ℕ
-wordsBy tags points commands = drawnPoints (left tags points (meaning commands))
-
--- The conditions on a text that spells these commands, and on what is lent.
-pub record Conditions (text : List ℕ) (z : Six) (table : Table) (tags points scene prefixes lines bytes : List ℕ) (commands : List Svg) (n : ℕ) : Type 0 where
-  -- the text is one of the language, and no command of it lacks room for its tag and its points
-  pub means : Means text commands
-  pub drawable : allOf (fresh tags points) (meaning commands) .number ≡ 0
-  -- its sheet is below 2^31 words and the scene has room for it; a prefix is lent for each word of tags
-  pub few : sizeOf (length (tagsBy tags points commands)) (length (wordsBy tags points commands)) < 2 ^ 31
-  pub room : sizeOf (length (tagsBy tags points commands)) (length (wordsBy tags points commands)) ≤ length scene
-  pub prefixes-lent : tagWords (length (tagsBy tags points commands)) * 4 ≤ length prefixes
-  -- the profile's own: at most 4,096 segments, and no shear
-  pub segments : length (tagsBy tags points commands) ≤ 4096
-  pub no-shear : straight (sixOf z) ≡ true
-  -- flattening the sheet is accepted: the transform is finite, no line and no count is without a number, the lines have room
-  pub flattens : outcome (sheetCall (tagsBy tags points commands) (wordsBy tags points commands) (sixOf z) scene prefixes lines) .answer .number ≡ 0
-  -- its lines, rounded, are within the table, and the bytes have room for the file
-  pub cuts :
-      let o = outcome (sheetCall (tagsBy tags points commands) (wordsBy tags points commands) (sixOf z) scene prefixes lines) in
-      lookOf table 0 (length bytes) (take (o .answer .count * 6) (o .lines)) ≡ cut.Whole n
 
 module _ (text : List ℕ) (z : Six) (table : Table) (tags points scene prefixes lines bytes : List ℕ) (commands : List Svg) (n : ℕ)
     (k : Conditions text z table tags points scene prefixes lines bytes commands n) where

@@ -1,7 +1,7 @@
 -- The segments of the sheet that the whole way writes are exactly the tags that the commands wrote, in order, each subpath a closed run. Assumes nothing.
-use Prim.Native.Nat.{ℕ, zero, suc, _+_, _-_, _*_, _/_, _%_, _^_, _<_, _≤_}
+use Prim.Native.Nat.{ℕ, zero, suc, _+_, _-_, _%_, _^_, _<_, _≤_}
 use mathlib.Core.Path.{_≡_, refl, sym, ap, _∙_, subst}
-use mathlib.Core.Bool.{Bool, true, false, not, _&&_, cond}
+use mathlib.Core.Bool.{true, false, not, _&&_}
 use mathlib.Core.List.{List, [], _∷_, _++_, append-nil}
 use native.Mathlib.Omega.{arith}
 use native.Mathlib.Decide.{ℕ-discrete, decLt}
@@ -15,19 +15,19 @@ use Rattle.scene.specs.FreshLaws.{sumsAt, sums-at, fresh-tag}
 use Rattle.scene.specs.declared.tags.PathTagData.{PathTagData}
 use Rattle.flatten.specs.Found.{HeadParts, head-parts}
 use Rattle.pattern.specs.Commands.{Segment, line, quad, cubic, spots, tagOf, Command}
-use Rattle.pattern.specs.Meaning.{Subpath, segmentTags, tagsOf, pointsOf}
+use Rattle.pattern.specs.Meaning.{Subpath, segmentTags, tagsOf}
 use Rattle.pattern.specs.Encoded.{Holds, encoded}
 use Rattle.pattern.specs.Every.{Every, none, more}
 use Rattle.watertight.specs.Fill.{Call, Accepted, headOf, typeOf, pathAt, Each}
 use Rattle.watertight.specs.Fill as fills
 use Rattle.watertight.specs.Accepted.{done}
-use Rattle.outlines.specs.Placing.{left, subpaths, Finished, drawnTags, drawnPoints, tagWords, FreshCall, Here, Placed, tagsFrom, outlines, ClosedRun}
+use Rattle.outlines.specs.Placing.{left, subpaths, Finished, drawnTags, drawnPoints, tagWords, Placed, tagsFrom, outlines, ClosedRun}
 use Rattle.outlines.specs.Decode.{size-of}
 use Rattle.outlines.specs.Lines.{closed-runs}
 use Rattle.own_lists.specs.Fills.{Outline, ClosedFill, EachOutline}
 use Rattle.own_lists.specs.Fills as fill
 use Rattle.closed_cuts.specs.Closed.{ownSegment, segmentsFrom, ClosedInOrder}
-use Rattle.cut.specs.Sheet.{tagBytes, sizeOf, tagWords as wordsOfTags, layoutBy, groups}
+use Rattle.cut.specs.Sheet.{tagBytes, sizeOf}
 use Rattle.whole_way.specs.Calls.{sheetCall}
 use Rattle.whole_way.specs.Sheets as sheets
 

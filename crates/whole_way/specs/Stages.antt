@@ -1,5 +1,5 @@
 -- Where the whole way accepts, every stage accepted; where it refuses, the bytes are as they were. Assumes nothing.
-use Prim.Native.Nat.{ℕ, _+_, _*_, _^_, _<_, _≤_}
+use Prim.Native.Nat.{ℕ, _+_, _*_, _^_}
 use mathlib.Core.Path.{_≡_, refl, sym, ap, _∙_, subst}
 use mathlib.Core.Bool.{Bool, true, false, _&&_, cond}
 use mathlib.Core.List.{List, [], _∷_, _++_}
@@ -11,10 +11,8 @@ use borrow.Author.Tests.{eqb-true}
 use Rattle.refusals.specs.Laws.{number-some}
 use Rattle.pattern.specs.Meaning.{freshPen}
 use Rattle.pattern.specs.Commands.{numberOf}
-use Rattle.pattern.specs.declared.pen.Answer.the-variants as drew
 use Rattle.svg.specs.Import.{importOf, faultNumber, reportOf}
 use Rattle.svg.specs.Room.{only-room}
-use Rattle.svg.specs.declared.steps.Fault.{Fault}
 use Rattle.svg.specs.declared.steps.Fault.the-variants.{NotInLanguage, TooLong}
 use Rattle.svg.specs.declared.reader.Ending.{Ending}
 use Rattle.svg.specs.declared.reader.Ending.the-variants.{Accepted as Read, Faulty, Undrawn}
@@ -32,8 +30,8 @@ use Rattle.hpgl.specs.Export.{exportOf, lookOf, cutReport}
 use Rattle.hpgl.specs.declared.Table.{Table}
 use Rattle.hpgl.specs.declared.export.Cut.{Cut}
 use Rattle.hpgl.specs.declared.export.Cut.the-variants as cut
-use Rattle.cut.specs.Sheet.{layoutOf, layoutBy, tagWords, sheetOf, sizeOf, fits, layOf}
-use Rattle.cut.specs.Stages.{Cutting, exportStage, Left, left, flattenStage, profileStage, scanStage, laidBy, sheetStage, cutOf}
+use Rattle.cut.specs.Sheet.{layoutOf, layoutBy, sizeOf, fits, layOf}
+use Rattle.cut.specs.Stages.{exportStage, Left, left, flattenStage, profileStage, scanStage, laidBy, sheetStage, cutOf}
 use Rattle.cut.specs.declared.sheet.Laid.{Laid}
 use Rattle.cut.specs.declared.sheet.Laid.the-variants as lay
 use Rattle.cut.specs.declared.Stage.{Stage}
@@ -41,6 +39,7 @@ use Rattle.cut.specs.declared.Stage.the-variants.{Text, Scan, Profile, Flatten}
 use Rattle.cut.specs.declared.Answer.the-variants.{Whole, Refused}
 use Rattle.watertight.specs.Fill.{Call, Accepted, outcome}
 use Rattle.whole_way.specs.Calls.{sceneOf, sheetCall}
+use Rattle.whole_way.specs.Conditions.{drawn-tags, drawn-words, Accept}
 
 -- ---- one stage
 
@@ -88,27 +87,12 @@ read-is text tags points (Faulty NotInLanguage i) h e = absurd (omega (arith, e)
 read-is text tags points (Faulty TooLong i) h e = absurd (omega (arith, e))
 read-is text tags points (Undrawn k i) h e = absurd (omega (arith, e, only-room text freshPen tags points k i h))
 
--- what the stages behind the text say of what was drawn, where they accept
-pub record Accept (drawn words six : List ℕ) (table : Table) (scene prefixes lines bytes : List ℕ) (n : ℕ) : Type 0 where
-  pub few : sizeOf (length drawn) (length words) < 2 ^ 31
-  pub room : sizeOf (length drawn) (length words) ≤ length scene
-  pub passed : let c = sheetCall drawn words six scene prefixes lines in toldOf (profileOf (given (c .layout) (c .scene) (c .prefixes))) .number ≡ 0
-  pub flattens : outcome (sheetCall drawn words six scene prefixes lines) .answer .number ≡ 0
-  pub cuts : let o = outcome (sheetCall drawn words six scene prefixes lines) in lookOf table 0 (length bytes) (take (o .answer .count * 6) (o .lines)) ≡ cut.Whole n
-
 -- the call of flattening is accepted
 unfoldable pub accepted-call : (drawn words six : List ℕ) (table : Table) (scene prefixes lines bytes : List ℕ) (n : ℕ) → Accept drawn words six table scene prefixes lines bytes n → Accepted (sheetCall drawn words six scene prefixes lines)
 unfolding sheetCall layoutBy sizeOf
 accepted-call drawn words six table scene prefixes lines bytes n k =
     let c = sheetCall drawn words six scene prefixes lines in
     record { u32 = omega (arith, k .few); count = outcome c .answer .count; answer = call-said (c .layout) (c .scene) (c .prefixes) lines (k .flattens) }
-
--- what the text drew: its tags and the words of its points
-abbrev pub drawn-tags : List ℕ → List ℕ → List ℕ → List ℕ
-drawn-tags text tags points = let t = importOf text freshPen tags points in take (t .pen .tags) (t .tags)
-
-abbrev pub drawn-words : List ℕ → List ℕ → List ℕ → List ℕ
-drawn-words text tags points = let t = importOf text freshPen tags points in take (t .pen .points) (t .points)
 
 module _ (text six : List ℕ) (table : Table) (tags points scene prefixes lines bytes : List ℕ) (n : ℕ) where
   abbrev drawn : List ℕ

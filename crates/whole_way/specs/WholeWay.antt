@@ -11,10 +11,10 @@ use Rattle.svg.specs.Meaning.{meaning}
 use Rattle.svg.specs.Import.{Told}
 use Rattle.svg.specs.Imports.{all-kept, all-after, accepted-text}
 use Rattle.imported.specs.Lines.{meaning-finishes}
-use Rattle.outlines.specs.Placing.{left, subpaths, Finished, drawnTags, drawnPoints, tagsFrom, sixWords}
+use Rattle.outlines.specs.Placing.{left, subpaths, Finished, drawnTags, drawnPoints, tagsFrom}
 use Rattle.outlines.specs.Flattened.{flattened}
 use Rattle.outlines.specs.LinesDrawn.{lines-drawn}
-use Rattle.closed_cuts.specs.Closed.{rounded, segmentsFrom}
+use Rattle.closed_cuts.specs.Closed.{rounded}
 use Rattle.closed_cuts.specs.Chains.{lines-are, chains-close}
 use Rattle.closed_cuts.specs.Balance.{closed-balance}
 use Rattle.own_lists.specs.Fills.{listOf}
@@ -36,7 +36,8 @@ use Rattle.whole_way.specs.Calls.{sheetCall}
 use Rattle.whole_way.specs.Promise.{subpathsOf, cutLines, Promise}
 use Rattle.whole_way.specs.Sheets as sheets
 use Rattle.whole_way.specs.Drawn as drawn
-use Rattle.whole_way.specs.Stages.{drawn-tags, drawn-words, Accept, accepted-call, went}
+use Rattle.whole_way.specs.Conditions.{drawn-tags, drawn-words, Accept}
+use Rattle.whole_way.specs.Stages.{accepted-call, went}
 
 -- ---- whether chains fit a table is a matter of their lines
 

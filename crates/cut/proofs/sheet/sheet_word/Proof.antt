@@ -1,10 +1,10 @@
 -- `cut::sheet::sheet_word` meets its contract. Assumes nothing.
 use Prim.Native.Nat.{_-_}
-use mathlib.Core.Path.{_≡_, sym, ap, _∙_}
+use mathlib.Core.Path.{sym, _∙_}
 use native.Mathlib.Omega.{arith}
 use lib.ListN.{length}
 use borrow.Author.Needs.{needs}
-use Rattle.cut.specs.Sheet.{sixOf, tagWords}
+use Rattle.cut.specs.Sheet.{sixOf}
 use Rattle.cut.specs.SheetLaws.{few-tags, word-of-tags, word-of-points, word-of-tail}
 use Rattle.cut.proofs.sheet.sheet_word.Statement.{statement}
 use Rattle.cut.proofs.sheet.sheet_word.Tie as tie

@@ -1,7 +1,6 @@
 -- `cut::sheet::tag_byte` meets its contract. Assumes nothing.
-use mathlib.Core.Path.{_≡_, refl, sym, ap}
+use mathlib.Core.Path.{sym}
 use native.Mathlib.Omega.{arith}
-use lib.ListN.{getD}
 use denote.Ref.{now}
 use borrow.Author.Needs.{needs}
 use Rattle.cut.specs.Sheet.{tagBytes}

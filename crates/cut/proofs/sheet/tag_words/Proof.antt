@@ -1,6 +1,4 @@
 -- `cut::sheet::tag_words` meets its contract. Assumes nothing.
-use Prim.Native.Nat.{_+_}
-use mathlib.Core.Path.{_≡_}
 use native.Mathlib.Omega.{arith}
 use borrow.Author.Needs.{needs}
 use Rattle.cut.specs.Sheet.{groups, tagWords}

@@ -1,7 +1,6 @@
 -- `cut::sheet::tail_word` meets its contract. Assumes nothing.
-use mathlib.Core.Path.{_≡_, sym}
+use mathlib.Core.Path.{sym}
 use native.Mathlib.Omega.{arith}
-use borrow.Author.Needs.{needs}
 use Rattle.cut.specs.Sheet.{sixOf}
 use Rattle.cut.specs.SheetLaws.{zeros-behind}
 use Rattle.cut.proofs.sheet.tail_word.Statement.{statement}
