@@ -1,7 +1,17 @@
 -- What the whole way promises of a file that it wrote, each word defined. Definitions only.
 --
--- A text is path data as SVG has it, cut down to M, L, Q, C and Z. `Means text commands` (svg, Language) says that the text is one of that language and
--- which commands it spells; no text spells two (`one-meaning`). A transform is six words, each the bits of an f32. A file is bytes.
+-- The words that are used here, and where each is defined:
+--   text, file    bytes. A text is path data as SVG has it, cut down to M, L, Q, C and Z
+--   Means         the text is one of that language and spells these commands (svg, Language); no text spells two lists of commands (`one-meaning`)
+--   meaning       M is a move, L, Q and C draw, Z and the end of the text end an outline; each number is the nearest f32 (svg, Meaning)
+--   meant         the outlines that moves, segments and ends make; one that ends elsewhere than it began has a line back to there (pattern, Meaning)
+--   six           the words of six f32: a, b, c, d, e, f take (x, y) to (a*x + c*y + e, b*x + d*y + f)
+--   flattened     the lines of each segment of each outline in turn, as the flattening defines a fill, under the six numbers (outlines, Flattened)
+--   rounded       those lines with each end at the nearest whole plotter unit, ties to even (closed_cuts, Closed)
+--   fileText      the bytes of `IN;` and of chains: for each a PU to its start and a PD to each further point; linesOf: the lines that they draw (hpgl, Form)
+--   readOf        what the table's reader gives for bytes, with room for so many lines; `complete`: it took all of them (hpgl, Reading)
+--   startsAt      how often a plotter point is a line's start; endsAt: an end (closed_cuts, Closed)
+--   AllClosed     each chain ends at the point where it began; Fits: each of its numbers is in a range; rangeOf: a table's (hpgl, Form)
 use Prim.Native.Nat.{ℕ, _≤_}
 use mathlib.Core.Path.{_≡_}
 use mathlib.Core.List.{List, _++_}
