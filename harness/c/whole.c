@@ -1,18 +1,9 @@
 /* Calls hinth_cut_text from C. Prints a line for each check; exits with 1 if one is wrong. */
 #include "hinthevoun.h"
+#include "checks.h"
 
 #include <math.h>
-#include <stdio.h>
 #include <string.h>
-
-static int failed = 0;
-
-static void check(const char *what, int right) {
-    printf("%s %s\n", right ? "ok  " : "FAIL", what);
-    failed |= !right;
-}
-
-#define CHECK(what) check(#what, what)
 
 #define MARK 0xa5u
 #define MARKS 0xa5a5a5a5a5a5a5a5u
