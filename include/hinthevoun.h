@@ -338,6 +338,34 @@ uint32_t hinth_import(uint64_t *pen, size_t pen_len, const uint8_t *text, size_t
                       uint32_t *points, size_t points_len, uint64_t *out, size_t out_len);
 
 /*
+ * The whole way: path data of SVG becomes the file for the knife table in one call, by the parts above, one after the other.
+ * The text is drawn as hinth_import does with a fresh pen, into tags and points. The sheet of one path is written to the
+ * front of the scene: the tags 0x20 and 0x40, what was drawn, 0x10, and zeros up to 256 * n_wg tags, where n_wg is the least
+ * that has room; then the points, the six numbers of the transform, and the style 0, 0, a fill by the nonzero rule. It is
+ * scanned into prefixes, tested against the profile for lay-up sheets, and flattened into lines, as path 0. The lines become
+ * HP-GL as hinth_cut writes it, for a table: 1 is the new one, and any other number the old one. The bytes are written only
+ * where the whole file can be; at any refusal they are as they were. Words of scene, prefixes and lines behind what each part
+ * writes are not touched; the scan, the profile and the flattening are lent the whole scene.
+ *
+ * The result is 0, or the number of the refusal of the first part that refuses. out[0] is the count of bytes written, 0 at a
+ * refusal; out[1] is the part that refused, else 0; out[2] is the place, in that part's own terms, else 0:
+ *
+ *   1 text      21, 60, 61     the byte of the text, as hinth_import tells it
+ *   2 sheet     80             the scene has no room for the sheet: how many words that takes, 0 where they are 2^31 or more
+ *   3 scan      1              0; it cannot arise, since the sheet begins at the scene's first word
+ *   4 profile   1 to 3, 70-75  the tag, as hinth_profile tells it; tags 0 and 1 are the sheet's own
+ *   5 flatten   1 to 9         the tag, as hinth_flatten tells it
+ *   6 cut       30             the record: a coordinate is a NaN or, rounded, outside the table's range
+ *               31             the record: a whole command has no room; 0 where `IN;` has none
+ *
+ * If out_len is under 3 none is written. Nothing else of out is ever written.
+ */
+uint32_t hinth_cut_text(const uint8_t *text, size_t text_len, float a, float b, float c, float d, float e, float f,
+                        uint32_t table, uint8_t *tags, size_t n_tags, uint32_t *points, size_t point_words, uint32_t *scene,
+                        size_t scene_words, uint32_t *prefixes, size_t prefix_words, uint32_t *lines, size_t line_words,
+                        uint8_t *bytes, size_t n_bytes, uint64_t *out, size_t out_len);
+
+/*
  * Mends a list whose paths each lack at most one line, and says what was done. The list is only read; the lines are
  * appended in `room`, which may stand right behind the list in memory, so that both together are the mended list.
  *

@@ -1,16 +1,6 @@
 /* Calls hinth_check from C. Prints a line for each check; exits with 1 if one is wrong. */
 #include "hinthevoun.h"
-
-#include <stdio.h>
-
-static int failed = 0;
-
-static void check(const char *what, int right) {
-    printf("%s %s\n", right ? "ok  " : "FAIL", what);
-    failed |= !right;
-}
-
-#define CHECK(what) check(#what, what)
+#include "checks.h"
 
 #define MARK 0xa5a5a5a5u
 #define ONE 0x3f800000u

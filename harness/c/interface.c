@@ -1,10 +1,9 @@
 /* Calls each function of the header from C. Prints a line for each check; exits with 1 if one is wrong. */
 #include "hinthevoun.h"
+#include "checks.h"
 
 #include <stdio.h>
 #include <string.h>
-
-static int failed = 0;
 
 /* The answer must have this word, or be a NaN where the word is a NaN's. */
 static void expect(const char *call, float answer, uint32_t word) {
@@ -17,13 +16,6 @@ static void expect(const char *call, float answer, uint32_t word) {
 }
 
 #define EXPECT(call, word) expect(#call, call, word)
-
-static void check(const char *what, int right) {
-    printf("%s %s\n", right ? "ok  " : "FAIL", what);
-    failed |= !right;
-}
-
-#define CHECK(what) check(#what, what)
 
 /* A triangle: its tags at word 0, points at 64, transform at 68, style at 74; and what is stored of it, by tags 2 to 4. */
 #define SCENE_LEN 76

@@ -1,17 +1,8 @@
 /* Calls hinth_profile from C. Prints a line for each check; exits with 1 if one is wrong. */
 #include "hinthevoun.h"
+#include "checks.h"
 
-#include <stdio.h>
 #include <string.h>
-
-static int failed = 0;
-
-static void check(const char *what, int right) {
-    printf("%s %s\n", right ? "ok  " : "FAIL", what);
-    failed |= !right;
-}
-
-#define CHECK(what) check(#what, what)
 
 #define ONE 0x3f800000u
 #define MARK 0xa5a5a5a5a5a5a5a5u

@@ -1,17 +1,8 @@
 /* Calls hinth_to_f32 and hinth_to_i16 from C. Prints a line for each check; exits with 1 if one is wrong. */
 #include "hinthevoun.h"
+#include "checks.h"
 
-#include <stdio.h>
 #include <string.h>
-
-static int failed = 0;
-
-static void check(const char *what, int right) {
-    printf("%s %s\n", right ? "ok  " : "FAIL", what);
-    failed |= !right;
-}
-
-#define CHECK(what) check(#what, what)
 
 #define MARK 0xa5
 static const uint8_t old_tags[3] = {0x21, 0x05, 0x18}, new_tags[3] = {0x29, 0x0d, 0x18};

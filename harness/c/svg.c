@@ -1,17 +1,8 @@
 /* Reads path data from C, with the pen and the buffers of the header. Prints a line for each check; exits with 1 if one is wrong. */
 #include "hinthevoun.h"
+#include "checks.h"
 
-#include <stdio.h>
 #include <string.h>
-
-static int failed = 0;
-
-static void check(const char *what, int right) {
-    printf("%s %s\n", right ? "ok  " : "FAIL", what);
-    failed |= !right;
-}
-
-#define CHECK(what) check(#what, what)
 
 #define TAGS 4
 #define POINTS 10

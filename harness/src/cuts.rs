@@ -13,7 +13,7 @@ use std::fmt::Write;
 use std::hint::black_box;
 
 type Record = [u32; 6];
-type Written = (Result<usize, CutRefusal>, Vec<u8>);
+pub type Written = (Result<usize, CutRefusal>, Vec<u8>);
 type Lines = (Result<usize, ReadRefusal>, Vec<i32>);
 
 const TABLES: [Table; 2] = [Table::Old, Table::New];
@@ -24,21 +24,21 @@ const UNTOUCHED: i32 = 0x5a5a_5a5a;
 
 fn takes(table: Table, value: i64) -> bool {
     match table {
-        Table::Old => value.abs() < 1 << 15,
+        Table::Old => (-32767..=32767).contains(&value),
         Table::New => value >> 23 == 0 || value >> 23 == -1,
     }
 }
 
-/// The nearest whole number, ties to even, if it is one of the new table's. Every f32 is an f64, and so is every half.
-fn rounded(word: u32) -> Option<i64> {
+/// The nearest whole number, ties to even, if it is one of the table's. Every f32 is an f64, and so is every half.
+fn rounded(table: Table, word: u32) -> Option<i64> {
     let nearest = f64::from(f32::from_bits(word)).round_ties_even();
     // a NaN becomes 0, and what is larger than every i64 becomes the last one
-    (!nearest.is_nan() && takes(Table::New, nearest as i64)).then_some(nearest as i64)
+    (!nearest.is_nan() && takes(table, nearest as i64)).then_some(nearest as i64)
 }
 
-/// The commands that a path's lines ask for, each with its record; `None` for one that cannot be written.
-fn commands(list: &[u32], path: u32) -> Vec<(usize, Option<String>)> {
-    let point = |name: &str, x: u32, y: u32| Some(format!("{name}{},{};", rounded(x)?, rounded(y)?));
+/// The commands that a path's lines ask for, each with its record; `None` for one that the table does not take.
+fn commands(list: &[u32], path: u32, table: Table) -> Vec<(usize, Option<String>)> {
+    let point = |name: &str, x: u32, y: u32| Some(format!("{name}{},{};", rounded(table, x)?, rounded(table, y)?));
     let (mut asked, mut pen) = (Vec::new(), None);
     for (k, &[of, _, x0, y0, x1, y1]) in list.as_chunks::<6>().0.iter().enumerate() {
         if of == path {
@@ -52,7 +52,8 @@ fn commands(list: &[u32], path: u32) -> Vec<(usize, Option<String>)> {
     asked
 }
 
-fn expected_cut(list: &[u32], path: u32, room: usize) -> Written {
+/// The answer for a table, and the bytes up to the first command that is refused.
+pub fn expected_cut(list: &[u32], path: u32, table: Table, room: usize) -> Written {
     let mut file = String::new();
     let mut answer = None;
     if room < 3 {
@@ -60,7 +61,7 @@ fn expected_cut(list: &[u32], path: u32, room: usize) -> Written {
     } else {
         file.push_str("IN;");
     }
-    for (record, command) in commands(list, path) {
+    for (record, command) in commands(list, path, table) {
         let bytes = file.len();
         match command {
             _ if answer.is_some() => break,
@@ -77,7 +78,7 @@ fn expected_cut(list: &[u32], path: u32, room: usize) -> Written {
 
 /// Where a file is left, and why.
 #[derive(Clone, Copy, PartialEq)]
-enum Left {
+pub enum Left {
     Wrong(usize),
     Outside(usize),
     Full(usize),
@@ -116,7 +117,7 @@ fn point(file: &[u8], table: Table, start: usize) -> Result<([i32; 2], usize), L
 }
 
 /// The lines, and where the file is left.
-fn lines_of(file: &[u8], table: Table, room: usize) -> (Vec<[i32; 4]>, Option<Left>) {
+pub fn lines_of(file: &[u8], table: Table, room: usize) -> (Vec<[i32; 4]>, Option<Left>) {
     let mut lines = Vec::new();
     let common = file.iter().zip(b"IN;").take_while(|(a, b)| a == b).count();
     if common < 3 {
@@ -179,7 +180,7 @@ fn read(file: &[u8], table: Table, numbers: usize) -> Lines {
 }
 
 fn compare_cut(tally: &mut Tally, list: &[u32], path: u32, room: usize) {
-    let (ours, right) = (written(list, path, room), expected_cut(list, path, room));
+    let (ours, right) = (written(list, path, room), expected_cut(list, path, Table::New, room));
     tally.count(ours == right, || format!("path {path}, room {room}: {:?}, expected {:?}; {list:x?}", ours.0, right.0));
 }
 
@@ -256,7 +257,7 @@ fn every_word(extent: Extent) -> Tally {
     sweep::words(&[words], |word, tally| {
         let mut bytes = [0; 32];
         let answer = cut(&[0, 0, word, 0, 0, 0], 0, &mut bytes);
-        let right = rounded(word).map(|value| format!("IN;PU{value},0;PD0,0;"));
+        let right = rounded(Table::New, word).map(|value| format!("IN;PU{value},0;PD0,0;"));
         let ours = answer.ok().map(|stands| bytes[..stands].to_vec());
         tally.count(ours == right.map(String::into_bytes), || format!("{word:#010x} gave {answer:?}"));
     })

@@ -9,6 +9,7 @@ pub fn header() -> Tally {
     let mut sources: Vec<PathBuf> = std::fs::read_dir(root().join("harness/c"))
         .and_then(|files| files.map(|file| Ok(file?.path())).collect())
         .unwrap_or_default();
+    sources.retain(|source| source.extension().is_some_and(|end| end == "c"));
     sources.sort();
     let mut tally = Tally::default();
     for source in sources {

@@ -18,6 +18,7 @@ mod sheets;
 mod svg;
 mod sweep;
 mod trig;
+mod whole;
 
 use report::Report;
 use std::process::ExitCode;
@@ -50,6 +51,7 @@ fn main() -> ExitCode {
             checker::bench();
             cuts::bench();
             svg::bench();
+            whole::bench();
             ExitCode::SUCCESS
         }
         _ => {
@@ -74,6 +76,7 @@ fn checks(extent: Extent, only: &str) -> ExitCode {
     cuts::run(&mut report, extent);
     svg::run(&mut report, extent);
     mender::run(&mut report, extent);
+    whole::run(&mut report, extent);
     match report.close() {
         true => ExitCode::SUCCESS,
         false => ExitCode::FAILURE,

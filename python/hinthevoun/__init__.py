@@ -7,6 +7,7 @@ The functions are those of include/hinthevoun.h, one for one:
     check                                           whether a list of lines is sound
     to_f32, to_i16                                  tags and points of an old sheet moved to f32 points, and back
     cut, read_cut                                   a path's lines as HP-GL, and such a file back as lines
+    cut_text                                        the whole way: path data of an SVG as HP-GL, in one call
     mend                                            the lines that a list lacks, and a report
     sqrt, hypot, cbrt, two_thirds, half,
     sin, cos, atan2, asin, acos                     the mathematics, each answer an f32
@@ -38,10 +39,11 @@ from .moving import Moved, NotMoved, to_f32, to_i16
 from .pattern import NotDrawn, Pen, cubic, end, line, move, quad
 from .profiling import NotPassed, Passed, profile
 from .refusals import Refusal
+from .whole import NotCutText, Stage, cut_text
 
 __version__ = "0.1.0"
-__all__ = ["EMPTY_BOX", "Layout", "Mended", "Moved", "NoLibrary", "NotChecked", "NotCut", "NotDrawn", "NotImported",
-           "NotMendable", "NotMoved", "NotPassed", "Passed", "PathCase", "Pen", "Refusal", "Sheet", "Table", "Verdict",
-           "Wrong", "acos", "asin", "atan2", "cbrt", "check", "cos", "cubic", "cut", "empty_boxes", "end", "flatten", "half",
-           "hypot", "import_path", "line", "mend", "move", "profile", "quad", "read_cut", "report_of", "scan", "sin", "sqrt",
-           "to_f32", "to_i16", "two_thirds"]
+__all__ = ["EMPTY_BOX", "Layout", "Mended", "Moved", "NoLibrary", "NotChecked", "NotCut", "NotCutText", "NotDrawn",
+           "NotImported", "NotMendable", "NotMoved", "NotPassed", "Passed", "PathCase", "Pen", "Refusal", "Sheet", "Stage",
+           "Table", "Verdict", "Wrong", "acos", "asin", "atan2", "cbrt", "check", "cos", "cubic", "cut", "cut_text",
+           "empty_boxes", "end", "flatten", "half", "hypot", "import_path", "line", "mend", "move", "profile", "quad",
+           "read_cut", "report_of", "scan", "sin", "sqrt", "to_f32", "to_i16", "two_thirds"]

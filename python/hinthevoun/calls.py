@@ -2,7 +2,7 @@
 import ctypes
 from array import array
 from contextlib import ExitStack
-from typing import List, NamedTuple
+from typing import Collection, List, NamedTuple
 
 from .buffers import Buffer, Lent, Span, Words
 from .opening import load
@@ -77,11 +77,13 @@ def word_for(name: str, value: int) -> int:
     return value
 
 
-def lent_lists(stack: ExitStack, read: dict, written: dict) -> List[Span]:
-    """The memory of the lists, in their order. None that is written may overlap another."""
-    spans = {name: stack.enter_context(Lent(name, words, False)) for name, words in read.items()}
+def lent_lists(stack: ExitStack, read: dict, written: dict, of_bytes: Collection[str] = ()) -> List[Span]:
+    """The memory of the lists, in their order; those that `of_bytes` names are lists of bytes. None that is written may
+    overlap another."""
+    width = {name: 1 if name in of_bytes else 4 for name in (*read, *written)}
+    spans = {name: stack.enter_context(Lent(name, words, False, width[name])) for name, words in read.items()}
     for name, words in written.items():
-        span = stack.enter_context(Lent(name, words, True))
+        span = stack.enter_context(Lent(name, words, True, width[name]))
         for other, taken in spans.items():
             if span.overlaps(taken):
                 raise ValueError(f"{name} is written and overlaps {other}")

@@ -20,7 +20,7 @@ COMMANDS = {
     "profile": "whether a sheet keeps to the profile for lay-up sheets",
     "check": "whether a list of lines is sound, of this shop or another",
     "convert": "a sheet of i16 points moved to f32 points, or back",
-    "cut": "the lines of one path as HP-GL, for the knife table",
+    "cut": "one path of a drawing or of a list as HP-GL, for the knife table",
     "mend": "a list whose paths each lack at most one line in, the mended list out",
 }
 
@@ -41,7 +41,8 @@ Examples:
   hinth profile new.sheet                               may it go to the knife table's lay-up
   hinth check socket.lines                              no bad number, every point a start as often as an end
   hinth convert --to f32 old.sheet -o new.sheet         an old sheet moved to f32 points, with the same lines
-  hinth cut socket.lines --path 0 -o brim.hpgl          a path as HP-GL; `hinth draw` draws such files too
+  hinth cut samples/brim.svg -o brim.plt                from a designer's drawing to the knife table, at its own size
+  hinth cut socket.lines --path 0 -o brim.hpgl          a path of a list as HP-GL; `hinth draw` draws such files too
   hinth mend old.lines --within 2 -o new.lines          close gaps of at most 2 units, and say which
 
 A sheet or a list is text, as docs/FLATLIST.md explains, or packed little-endian words; - is standard input or output.

@@ -10,6 +10,7 @@ from .sheets import Sheet, memory
 BYTES_OF_A_LINE = 4 * WORDS_OF_A_LINE
 WORDS_OF_A_WORKGROUP = 64
 MOST_LINES = 2**32 - 1  # the library counts no more
+FEWEST_BYTES = 1000 * BYTES_OF_A_LINE  # with less there is no use in going on
 
 
 class Answer(NamedTuple):
@@ -49,10 +50,15 @@ def room_for(lines: int) -> memoryview:
     lines = min(lines, MOST_LINES)
     if not lines:
         return memoryview(array("I"))
+    pages = pages_for(BYTES_OF_A_LINE * lines)
+    return pages[:len(pages) // BYTES_OF_A_LINE * BYTES_OF_A_LINE].cast("I")
+
+
+def pages_for(size: int) -> memoryview:
+    """Room for so many bytes, or for as many as the system gives, of which memory is taken as they are written."""
     try:
-        pages = mmap.mmap(-1, BYTES_OF_A_LINE * lines, flags=mmap.MAP_PRIVATE | mmap.MAP_ANON)
+        return memoryview(mmap.mmap(-1, size, flags=mmap.MAP_PRIVATE | mmap.MAP_ANON))
     except (OSError, MemoryError, OverflowError):
-        if lines < 1000:
+        if size < FEWEST_BYTES:
             raise MemoryError from None
-        return room_for(lines // 4)
-    return memoryview(pages).cast("I")
+        return pages_for(size // 4)

@@ -33,6 +33,7 @@ _CALLS: Dict[str, List[Any]] = {
     "hinth_import": _LENT * 5,
     "hinth_cut": [*_LENT, _WORD, *_LENT, *_LENT],
     "hinth_read_cut": [*_LENT, _WORD, *_LENT, *_LENT],
+    "hinth_cut_text": [*_LENT, *[_FLOAT] * 6, _WORD, *_LENT * 7],
     "hinth_mend": [*_LENT, _WORD, *_LENT, *_LENT, *_LENT],
 }
 _MATHS: Dict[str, List[Any]] = {

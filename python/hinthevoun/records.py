@@ -32,10 +32,18 @@ class Records(NamedTuple):
 
 def read_records(argument: str, done: str = "checked") -> Records:
     """The list that an argument names, in the form that its first bytes show; `done` is what is to be done with it."""
-    name = name_of(argument)
+    return records_of(name_of(argument), read_bytes(argument, done))
+
+
+def read_bytes(argument: str, done: str) -> bytes:
+    """All of a file, up to the limit; `done` is what is to be done with it."""
     with source(argument) as stream:
-        limited = Limited(name, stream, done)
-        data = limited.rest(limited.read(CHUNK))
+        limited = Limited(name_of(argument), stream, done)
+        return limited.rest(limited.read(CHUNK))
+
+
+def records_of(name: str, data: bytes) -> Records:
+    """The list that a file's bytes are."""
     if not data:
         raise Wrong(f"{name}: empty; a list without lines is the one row 'lines 0', so something was lost: ask for it again")
     if data.startswith(MAGIC):

@@ -17,7 +17,7 @@ from test_flatten import many
 
 COMMANDS = ("import", "flatten", "draw", "compare", "info")
 LIBRARY = ROOT / "target/staticlib/libhinthevoun.so"
-OURS = {"hinthevoun", "support", "browser", "oracle_sheets", "test_flatten"}
+OURS = {"hinthevoun", "support", "browser", "oracle_sheets", "parts", "test_flatten"}
 
 
 def on_a_terminal(code, seconds=30, keys=()):

@@ -1,7 +1,7 @@
 //! The functions as include/hinthevoun.h declares them. A slice is passed as its pointer and its length, so what
 //! they may touch is what the slice lends, and no two slices overlap where one is written.
 
-use crate::{Layout, PathBox};
+use crate::{Layout, Lent, PathBox};
 
 unsafe extern "C" {
     fn hinth_scan(
@@ -405,4 +405,67 @@ pub fn import(pen: &mut [u64], text: &[u8], tags: &mut [u8], points: &mut [u32])
         )
     };
     (number, out[0])
+}
+
+unsafe extern "C" {
+    fn hinth_cut_text(
+        text: *const u8,
+        text_len: usize,
+        a: f32,
+        b: f32,
+        c: f32,
+        d: f32,
+        e: f32,
+        f: f32,
+        table: u32,
+        tags: *mut u8,
+        n_tags: usize,
+        points: *mut u32,
+        point_words: usize,
+        scene: *mut u32,
+        scene_words: usize,
+        prefixes: *mut u32,
+        prefix_words: usize,
+        lines: *mut u32,
+        line_words: usize,
+        bytes: *mut u8,
+        n_bytes: usize,
+        out: *mut u64,
+        out_len: usize,
+    ) -> u32;
+}
+
+/// The refusal's number or 0; how many bytes were written, the stage that refused, and the place.
+pub fn cut_text(text: &[u8], transform: [f32; 6], table: u32, lent: &mut Lent, bytes: &mut [u8]) -> (u32, [u64; 3]) {
+    let mut out = [0; 3];
+    let [a, b, c, d, e, f] = transform;
+    // SAFETY: as in `scan`.
+    let number = unsafe {
+        hinth_cut_text(
+            text.as_ptr(),
+            text.len(),
+            a,
+            b,
+            c,
+            d,
+            e,
+            f,
+            table,
+            lent.tags.as_mut_ptr(),
+            lent.tags.len(),
+            lent.points.as_mut_ptr(),
+            lent.points.len(),
+            lent.scene.as_mut_ptr(),
+            lent.scene.len(),
+            lent.prefixes.as_mut_ptr(),
+            lent.prefixes.len(),
+            lent.lines.as_mut_ptr(),
+            lent.lines.len(),
+            bytes.as_mut_ptr(),
+            bytes.len(),
+            out.as_mut_ptr(),
+            out.len(),
+        )
+    };
+    (number, out)
 }

@@ -29,6 +29,7 @@ pub mod pattern;
 mod profile;
 mod sheets;
 mod svg;
+mod whole;
 
 pub use check::{CheckRefusal, Verdict, check};
 pub use cut::{CutRefusal, ReadRefusal, Table, cut, read_cut};
@@ -36,6 +37,7 @@ pub use mend::{Mend, MendRefusal, PathCase, mend, report_of};
 pub use profile::{Passed, ProfileRefusal, Rule, profile};
 pub use sheets::{MoveRefusal, Moved, to_f32, to_i16};
 pub use svg::ImportRefusal;
+pub use whole::{CutTextRefusal, Lent, cut_text};
 
 /// Where in a scene its parts begin, in words, and how many workgroups of 256 tags to take.
 #[derive(Clone, Copy, Debug, PartialEq, Eq)]

@@ -97,15 +97,19 @@ impl std::error::Error for ProfileRefusal {}
 /// ```
 pub fn profile(layout: Layout, scene: &[u32], prefixes: &[u32]) -> Result<Passed, ProfileRefusal> {
     let (number, [tag, segments, subpaths]) = ffi::profile(layout, scene, prefixes);
-    let against = |rule| Err(ProfileRefusal::Against { rule, tag });
+    if number == 0 { Ok(Passed { segments, subpaths }) } else { Err(refused(number, tag)) }
+}
+
+/// The refusal of a number that is not 0.
+pub(crate) fn refused(number: u32, tag: u64) -> ProfileRefusal {
+    let against = |rule| ProfileRefusal::Against { rule, tag };
     match number {
-        0 => Ok(Passed { segments, subpaths }),
         70 => against(Rule::Stroke),
         71 => against(Rule::EvenOdd),
         72 => against(Rule::Wide),
         73 => against(Rule::Transform),
         74 => against(Rule::Subpath),
         75 => against(Rule::TooMany),
-        _ => Err(ProfileRefusal::Unread { number, tag }),
+        _ => ProfileRefusal::Unread { number, tag },
     }
 }

@@ -1,10 +1,10 @@
--- Each chain of a closed cut ends where it began: the theorem. What it speaks of is defined in Closed.antt. Assumes nothing.
+-- The cut of a path is what its segments draw, and each chain of a closed cut ends where it began: the theorems. What they speak of is defined in Closed.antt. Assumes nothing.
 use Prim.Native.Nat.{ℕ, zero, suc, _+_, _≤_, _<_}
 use mathlib.Core.Path.{_≡_, refl, sym, ap, _∙_, subst}
-use mathlib.Core.Logic.{_⊎_, inl, inr}
+use mathlib.Core.Logic.{inl, inr}
 use mathlib.Core.Bool.{Bool, true, false, false≢true, not, _&&_, cond}
 use mathlib.Core.List.{List, [], _∷_, _++_, append-assoc}
-use native.Mathlib.Nat.{add-zero, zero-add}
+use native.Mathlib.Nat.{zero-add}
 use native.Mathlib.Omega.{arith}
 use lib.Dec.{T, eqb, eqb→eq}
 use lib.ListN.{length, getD, take, drop}
@@ -20,18 +20,20 @@ use Rattle.curve.specs.Chain.{Chain}
 use Rattle.flatten.specs.Tag.{eventsBy, eventsAt}
 use Rattle.flatten.specs.Step.{tagWord}
 use Rattle.watertight.specs.Balance.{AllLines}
-use Rattle.watertight.specs.Fill.{Call, Accepted, outcome, tags, pathAt, typeOf, headOf, readEvents, eventsOr, drawnAt, linesOf, countBefore}
+use Rattle.watertight.specs.Fill.{Call, Accepted, outcome, tags, pathAt, typeOf, eventsOr, drawnAt, linesOf, countBefore}
 use Rattle.watertight.specs.Accepted.{recordsAt, done}
 use Rattle.watertight.specs.Stored.{place}
 use Rattle.watertight.specs.Watertight.{one-chain}
 use Rattle.own_lists.specs.Fills.{listOf, Outline, ClosedFill, EachOutline, tagsOf}
 use Rattle.own_lists.specs.Pass.{records}
-use Rattle.hpgl.specs.Form.{fileText, AllClosed, Range}
+use Rattle.hpgl.specs.Text.{pick}
+use Rattle.hpgl.specs.Form.{fileText, Line, AllClosed, Range}
 use Rattle.hpgl.specs.Form.{linesOf as chainLines, Chain as Cut}
-use Rattle.hpgl.specs.Export.{exportOf, roundedLines}
+use Rattle.hpgl.specs.Rounding.{pointOf}
+use Rattle.hpgl.specs.Export.{exportOf, roundedFrom, roundedLines}
 use Rattle.hpgl.specs.RoundTrip.{isWritten}
 use Rattle.hpgl.specs.Loops.{Turn, Within, First, Loops, export-closed}
-use Rattle.closed_cuts.specs.Closed.{ownSegment, segmentsFrom, ClosedInOrder}
+use Rattle.closed_cuts.specs.Closed.{segmentsFrom, ClosedInOrder, rounded}
 
 -- ---- the lines of a path among records
 
@@ -261,15 +263,38 @@ module _ (c : Call) (a : Accepted c) where
       let k = one-chain c a (o .first) (o .behind) (h .0 .run) (h .0 .closed) in
       (record { from = k .0; chain = k .2 }, each-loop os (h .1))
 
+-- ---- the records of the path, in the list that the call left
+own-records : (c : Call) (a : Accepted c) (path : ℕ) → Reads path (listOf c a) (count (listOf c a)) 0 (linesOf c (segmentsFrom c path (tags c) 0))
+unfolding countBefore
+own-records c a path =
+    let n : drawnBy c a path (tags c) 0 ≡ a .count = drawn-sum c a path in
+    let read = among path (outcome c .lines) (a .count) (drawnBy c a path (tags c) 0) 0 _ (omega (arith, n)) (reads c a path (tags c) 0 (omega arith)) in
+    moved path (listOf c a) _ _ 0 0 _ (n ∙ sym (records c a)) refl read
+
+by-record : (own : Bool) (next : List Event → Type 0) (u v z w : ℕ) (ls : List Line) → ((es : List Event) → next es → ls ≡ rounded es)
+    → (es : List Event) → ReadBy own next u v z w es → pick own (record { from = pointOf u v; to = pointOf z w } ∷ ls) ls ≡ rounded es
+unfolding rounded
+by-record false next u v z w ls h es r = h es r
+by-record true next u v z w ls h [] r = absurd r
+by-record true next u v z w ls h (line p q ∷ es) r = rw (r .0, r .1, r .2, r .3, h es (r .4))
+by-record true next u v z w ls h (noCount ∷ es) r = absurd r
+by-record true next u v z w ls h (noJoin ∷ es) r = absurd r
+
+read-rounded : (path : ℕ) (ws : List ℕ) (n i : ℕ) (es : List Event) → Reads path ws n i es → roundedFrom path ws n i ≡ rounded es
+unfolding Reads roundedFrom rounded
+read-rounded path ws zero i es r = rw r
+read-rounded path ws (suc n) i es r =
+    by-record (eqb (pathOf ws i) path) (Reads path ws n (suc i)) (word ws i 2) (word ws i 3) (word ws i 4) (word ws i 5) (roundedFrom path ws n (suc i)) (read-rounded path ws n (suc i)) es r
+
+-- ---- the theorem: the lines that are cut of a path are those that its segments draw, in order, and no others
+pub lines-are : (c : Call) (a : Accepted c) (path : ℕ) → roundedLines path (listOf c a) ≡ rounded (linesOf c (segmentsFrom c path (tags c) 0))
+unfolding roundedLines
+lines-are c a path = read-rounded path (listOf c a) (count (listOf c a)) 0 _ (own-records c a path)
+
 -- ---- the theorem: each chain of the cut of a path whose outlines are closed, one behind the other, ends where it began
 pub chains-close : (r : Range) (c : Call) (a : Accepted c) (path : ℕ) → ClosedInOrder c path → (room : ℕ) → T (isWritten (exportOf r path room (listOf c a) .verdict))
     → (cs : List Cut) × (exportOf r path room (listOf c a) .bytes ≡ fileText cs) × (roundedLines path (listOf c a) ≡ chainLines cs) × AllClosed cs
-unfolding countBefore
 chains-close r c a path f room w =
-    let n : drawnBy c a path (tags c) 0 ≡ a .count = drawn-sum c a path in
-    let all-read = reads c a path (tags c) 0 (omega arith) in
-    let read = among path (outcome c .lines) (a .count) (drawnBy c a path (tags c) 0) 0 _ (omega (arith, n)) all-read in
-    let m : drawnBy c a path (tags c) 0 ≡ count (listOf c a) = n ∙ sym (records c a) in
     export-closed r path room (listOf c a)
     (read-loops path (listOf c a) (count (listOf c a)) 0 (groups c a (f .outlines)) (each-loop c a (f .outlines) (f .closed-fills))
-    (moved path (listOf c a) _ _ 0 0 _ m refl (subst (Reads path (listOf c a) (drawnBy c a path (tags c) 0) 0) (ap (linesOf c) (f .in-order) ∙ grouped c a (f .outlines)) read))) w
+    (subst (Reads path (listOf c a) (count (listOf c a)) 0) (ap (linesOf c) (f .in-order) ∙ grouped c a (f .outlines)) (own-records c a path))) w

@@ -1,4 +1,4 @@
--- A path all of whose lines come from closed runs of fills, and how often a plotter point is a start and an end. Definitions only.
+-- A path all of whose lines come from closed runs of fills, drawn lines as the export rounds them, and how often a plotter point is a start and an end. Definitions only.
 use Prim.Native.Nat.{ℕ, zero, suc, _+_, _<_}
 use mathlib.Core.Path.{_≡_}
 use mathlib.Core.Logic.{_⊎_}
@@ -6,10 +6,14 @@ use mathlib.Core.Bool.{Bool, false, not, _&&_, cond}
 use mathlib.Core.List.{List, [], _∷_}
 use lib.IntN.{ℤ, pos, negsuc}
 use lib.Dec.{eqb}
+use lib.Ieee.{binary32, toBits}
 use Rattle.records.specs.Record.{once}
+use Rattle.spiral.specs.declared.util.Vec2.{Vec2}
+use Rattle.drawing.specs.Sheet.{Event, line, noCount, noJoin}
 use Rattle.watertight.specs.Fill.{Call, tags, pathAt, typeOf, drawnAt}
 use Rattle.own_lists.specs.Fills.{Outline, ClosedFill, EachOutline, tagsOf, times}
 use Rattle.hpgl.specs.Form.{Line}
+use Rattle.hpgl.specs.Rounding.{pointOf}
 use Rattle.hpgl.specs.declared.Point.{Point}
 
 -- what is asked of a path of an accepted call
@@ -33,6 +37,19 @@ pub record ClosedInOrder (c : Call) (path : ℕ) : Type 0 where
   pub outlines : List Outline
   pub closed-fills : EachOutline (ClosedFill c) outlines
   pub in-order : segmentsFrom c path (tags c) 0 ≡ tagsOf outlines
+
+-- ---- drawn lines, as the export rounds them
+
+-- a point, by the two words of it that a record has
+abbrev pub roundedPoint : Vec2 → Point
+roundedPoint p = pointOf (toBits binary32 (p .x)) (toBits binary32 (p .y))
+
+-- the lines among events, in order
+unfoldable pub rounded : List Event → List Line
+rounded [] = []
+rounded (line p q ∷ es) = record { from = roundedPoint p; to = roundedPoint q } ∷ rounded es
+rounded (noCount ∷ es) = rounded es
+rounded (noJoin ∷ es) = rounded es
 
 -- ---- plotter points
 unfoldable pub sameNumber : ℤ → ℤ → Bool

@@ -1,3 +1,4 @@
 pub mod Closed
 pub mod Cuts
 pub mod Chains
+pub mod Balance

@@ -5,3 +5,4 @@ pub mod Corner
 pub mod Moved
 pub mod Drawn
 pub mod ItsCut
+pub mod WholeWay

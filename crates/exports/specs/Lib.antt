@@ -8,3 +8,4 @@ pub mod Import
 pub mod Mend
 pub mod Only
 pub mod Cut
+pub mod Whole

@@ -18,6 +18,8 @@ use Rattle.hpgl.specs.Export.{cutOf}
 use Rattle.hpgl.specs.Reading.{readingOf}
 use Rattle.exports.specs.Call.{reported, reportedOf}
 use Rattle.exports.specs.Scan.{scanned, scannedOf}
+use Rattle.cut.specs.Stages.{Gone}
+use Rattle.exports.specs.Whole.{whole, wholeOf}
 use Rattle.exports.specs.Cut.{tableOf, written, writtenOf, linesRead, linesReadOf}
 use Rattle.checker.specs.Verdict.{toldOf}
 use Rattle.checker.specs.Only.{check-only}
@@ -136,3 +138,10 @@ hinth-mend-only list within before os r s p q =
     let number = p .returned ∙ ap (λ (o : Outcome × MendLent). mendTold (o .0) .number) e ∙ sym (q .returned) in
     let out = p .written ∙ ap (λ (o : Outcome × MendLent). twoOf (mendTold (o .0) .first) (mendTold (o .0) .second) os) e ∙ sym (q .written) in
     λ i. (number i, (e i .1, out i))
+
+pub hinth-cut-text-only : (g : Gone) (os : List ℕ)
+    → Only (λ (r : ℕ × (List ℕ × (List ℕ × (List ℕ × (List ℕ × (List ℕ × (List ℕ × List ℕ))))))).
+    whole (r .0) (r .1 .0) (r .1 .1 .0) (r .1 .1 .1 .0) (r .1 .1 .1 .1 .0) (r .1 .1 .1 .1 .1 .0) (r .1 .1 .1 .1 .1 .1 .0) (r .1 .1 .1 .1 .1 .1 .1) ≡ wholeOf g os)
+hinth-cut-text-only g os r s p q =
+    let e = p ∙ sym q in
+    λ i. (e i .number, (e i .tags, (e i .points, (e i .scene, (e i .prefixes, (e i .lines, (e i .bytes, e i .out)))))))

@@ -1,4 +1,4 @@
-// The C interface: each function is one of `maths`, `scene`, `flatten`, `pattern`, `svg`, `sheets`, `profile`, `checker`, `mender` or `hpgl`
+// The C interface: each function is one of `maths`, `scene`, `flatten`, `pattern`, `svg`, `sheets`, `profile`, `checker`, `mender`, `hpgl` or `cut`
 // under a name that C and Rust can link. See include/hinthevoun.h.
 ghost use mathlib.Core.Path.{_≡_};
 ghost use Rattle.maths.specs.Numbers.{halfOf};
@@ -8,12 +8,13 @@ ghost use Rattle.maths.specs.Trig.{sinOf, cosOf, atan2Of, asinOf, acosOf};
 pub mod call;
 pub mod check;
 pub mod convert;
-pub mod cut;
+pub mod cutting;
 pub mod import;
 pub mod mending;
 pub mod pen;
 pub mod profiling;
 pub mod scan;
+pub mod whole;
 
 #[no_mangle]
 pub extern "C" fn hinth_sqrt(x: f32) -> f32

@@ -1,6 +1,6 @@
 -- A float's rounding by its bits: the exponent's field, the digits, and what code finds with them. Assumes nothing.
 use mathlib.Core.Path.{_≡_, refl, sym, ap, _∙_}
-use mathlib.Core.Bool.{Bool, true, false, cond}
+use mathlib.Core.Bool.{Bool, true, false, cond, _&&_}
 use mathlib.Core.Logic.{inl, inr}
 use Prim.Native.Nat.{ℕ, zero, suc, _+_, _-_, _*_, _/_, _%_, _^_, _≤_, _<_, compare, Ordering, Ordering·lt, Ordering·eq, Ordering·gt}
 use native.Mathlib.Nat.{le-trans, le-of-eq, lt-of-lt-of-le, mul-assoc, mul-one, mul-le-mul, one-mul, mod-eq-of-lt, div-eq-of-lt}
@@ -16,8 +16,11 @@ use borrow.Author.Tests.{lt-ltb, le-ltb, le-leb, lt-leb, eq-eqb, ne-eqb}
 use Rattle.laws.specs.Same.{either}
 use Rattle.hpgl.specs.Text.{pick, signedOf}
 use Rattle.hpgl.specs.Form.{Range, most, rangeOf}
-use Rattle.hpgl.specs.Rounding.{roundedOf, isWithin, isGood}
-use Rattle.hpgl.specs.declared.Table.the-variants.{New}
+use Rattle.hpgl.specs.Ranges.{most-few}
+use Rattle.hpgl.specs.Rounding.{roundedOf, isWithin, isGood, pointOf}
+use Rattle.hpgl.specs.declared.Table.{Table}
+use Rattle.hpgl.specs.declared.rounding.Aim.{Aim}
+use Rattle.hpgl.specs.declared.rounding.Aim.the-variants as aim-is
 use Rattle.hpgl.specs.declared.rounding.Rounded.{Rounded}
 use Rattle.hpgl.specs.declared.rounding.Rounded.the-variants.{Bad, To}
 
@@ -29,6 +32,11 @@ sizeOf field digits = pick (ltb field 126) 0 (closest (8388608 + digits) (2 ^ (1
 abbrev pub Rounds : Range → ℕ → Rounded → Type 0
 Rounds r w Bad = isGood r (ofBits binary32 w) ≡ false
 Rounds r w (To s n) = (isGood r (ofBits binary32 w) ≡ true) × (roundedOf (ofBits binary32 w) ≡ signedOf s n)
+
+-- the point of two words: refused where one of them is, or the signs and sizes
+abbrev pub Aims : Range → ℕ → ℕ → Aim → Type 0
+Aims r x y aim-is.Bad = isGood r (ofBits binary32 x) && isGood r (ofBits binary32 y) ≡ false
+Aims r x y (aim-is.To s n t m) = (isGood r (ofBits binary32 x) && isGood r (ofBits binary32 y) ≡ true) × (pointOf x y ≡ record { x = signedOf s n; y = signedOf t m })
 
 -- ---- by how the remainder compares
 order-lt : (a b : ℕ) → a < b → compare a b ≡ Ordering·lt
@@ -163,24 +171,40 @@ near-fields s (suc x) t h d =
     rw (ne-eqb (suc x) 255 (λ e. omega arith))
     (rw (size-some x t h d) at (valued (odd 24 s (8388608 + t) x 149) s ((8388608 + t) * 2 ^ x) (2 ^ 149) (pow-pos 149) (odd-sign 24 s (8388608 + t) x 149)))
 
--- ---- what code finds, for the new table's range
+-- ---- what code finds, for a table's range
 digits-of : (w : ℕ) → w % 8388608 < 8388608
 digits-of w = omega arith
 
-pub far-bad : (w : ℕ) → 150 < w % 2147483648 / 8388608 → Rounds (rangeOf New) w Bad
-unfolding ofBits rangeOf
-far-bad w h = far-fields (rangeOf New) (leb 2147483648 w) (w % 8388608) (w % 2147483648 / 8388608) (lit< tt) (lit< tt) h
-
-module _ (w : ℕ) (h : w % 2147483648 / 8388608 ≤ 150) (n : ℕ) (e : n ≡ sizeOf (w % 2147483648 / 8388608) (w % 8388608)) (m : ℕ) (f : m ≡ most (rangeOf New) (leb 2147483648 w)) where
-  here : Valued (ofBits binary32 w) (leb 2147483648 w) n
+module _ (table : Table) (w : ℕ) where
+  pub far-bad : 150 < w % 2147483648 / 8388608 → Rounds (rangeOf table) w Bad
   unfolding ofBits
-  here = rw e (near-fields (leb 2147483648 w) (w % 2147483648 / 8388608) (w % 8388608) h (digits-of w))
+  far-bad h =
+      let below : rangeOf table .below < 16777216 = omega (arith, most-few table true) in
+      let above : rangeOf table .above < 16777216 = omega (arith, most-few table false) in
+      far-fields (rangeOf table) (leb 2147483648 w) (w % 8388608) (w % 2147483648 / 8388608) below above h
 
-  in-range : isGood (rangeOf New) (ofBits binary32 w) ≡ leb n m
-  in-range = here .good (rangeOf New) ∙ within-size (rangeOf New) (leb 2147483648 w) n ∙ ap (leb n) (sym f)
+  module _ (h : w % 2147483648 / 8388608 ≤ 150) (n : ℕ) (e : n ≡ sizeOf (w % 2147483648 / 8388608) (w % 8388608)) (m : ℕ) (f : m ≡ most (rangeOf table) (leb 2147483648 w)) where
+    here : Valued (ofBits binary32 w) (leb 2147483648 w) n
+    unfolding ofBits
+    here = rw e (near-fields (leb 2147483648 w) (w % 2147483648 / 8388608) (w % 8388608) h (digits-of w))
 
-  pub size-bad : m < n → Rounds (rangeOf New) w Bad
-  size-bad l = in-range ∙ lt-leb n m l
+    in-range : isGood (rangeOf table) (ofBits binary32 w) ≡ leb n m
+    in-range = here .good (rangeOf table) ∙ within-size (rangeOf table) (leb 2147483648 w) n ∙ ap (leb n) (sym f)
 
-  pub size-good : n ≤ m → Rounds (rangeOf New) w (To (leb 2147483648 w) n)
-  size-good l = (in-range ∙ le-leb n m l, here .rounded)
+    pub size-bad : m < n → Rounds (rangeOf table) w Bad
+    size-bad l = in-range ∙ lt-leb n m l
+
+    pub size-good : n ≤ m → Rounds (rangeOf table) w (To (leb 2147483648 w) n)
+    size-good l = (in-range ∙ le-leb n m l, here .rounded)
+
+-- ---- a point, by what code found of its two words
+module _ (r : Range) (x y : ℕ) where
+  pub aims-bad-x : Rounds r x Bad → Aims r x y aim-is.Bad
+  aims-bad-x e = rw e
+
+  pub aims-bad-y : (s : Bool) (n : ℕ) → Rounds r x (To s n) → Rounds r y Bad → Aims r x y aim-is.Bad
+  aims-bad-y s n e f = rw (e .0, f)
+
+  pub aims-to : (s : Bool) (n : ℕ) (t : Bool) (m : ℕ) → Rounds r x (To s n) → Rounds r y (To t m) → Aims r x y (aim-is.To s n t m)
+  unfolding pointOf
+  aims-to s n t m e f = (rw (e .0, f .0), rw (e .1, f .1))

@@ -15,6 +15,7 @@ pub mod ExportLaws
 pub mod RoundTrip
 pub mod Loops
 pub mod Tables
+pub mod Looks
 pub mod Examples
 pub mod Held
 pub mod Past

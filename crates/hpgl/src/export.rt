@@ -5,11 +5,11 @@ ghost use lib.ListN.{length};
 ghost use Rattle.hpgl.specs.Form.{rangeOf};
 ghost use Rattle.hpgl.specs.CommandLaws.{penOf, commandText};
 ghost use Rattle.hpgl.specs.Export.{put, goesOn, putLine, outcome, cutOf, cutReport};
-ghost use Rattle.hpgl.specs.ExportLaws.{Texted, Continues, Steps, left};
+ghost use Rattle.hpgl.specs.ExportLaws.{inBytes, Texted, Continues, Steps, left};
 use crate::Report;
 use crate::Table;
-use crate::rounding::Rounded;
-use crate::rounding::coordinate;
+use crate::rounding::Aim;
+use crate::rounding::aim_at;
 use crate::text::command_length;
 use crate::text::write_command;
 use records::word_at;
@@ -23,20 +23,20 @@ pub enum Cut {
 }
 
 // Where the last line of the path ended, by its bits.
-enum Last {
+pub(crate) enum Last {
     Nowhere,
     Ended(u32, u32),
 }
 
 // After a command or a line: the place behind it, or the count of bytes that stand.
-enum Put {
+pub(crate) enum Put {
     On(usize),
     Bad(usize),
     Full(usize),
 }
 
 // The same with where the path's last line ended.
-enum Step {
+pub(crate) enum Step {
     On(usize, Last),
     Bad(usize),
     Full(usize),
@@ -45,7 +45,7 @@ enum Step {
 // A command to a point given by signs and sizes, where it has room.
 fn put_text(out: &mut [u8], at: usize, draws: bool, sx: bool, x: u32, sy: bool, y: u32) -> Put
     requires { ⌜ at ≤ length (now out) ⌝ }
-    ensures { λ r. ⌜ Texted (commandText draws sx x sy y) (now (out .entry)) at r (now (out .exit)) ⌝ }
+    ensures { λ r. ⌜ Texted inBytes (commandText draws sx x sy y) (now (out .entry)) at r (now (out .exit)) ⌝ }
 {
     if out.len() - at < command_length(draws, sx, x, sy, y) {
         return Put::Full(at);
@@ -56,21 +56,18 @@ fn put_text(out: &mut [u8], at: usize, draws: bool, sx: bool, x: u32, sy: bool, 
 // A command to the point of two words.
 fn put_command(out: &mut [u8], at: usize, draws: bool, x: u32, y: u32) -> Put
     requires { ⌜ at ≤ length (now out) ⌝ }
-    ensures { λ r. ⌜ Continues (put (rangeOf Table.New) (penOf draws) x y) (now (out .entry)) at r (now (out .exit)) ⌝ }
+    ensures { λ r. ⌜ Continues inBytes (put (rangeOf Table.New) (penOf draws) x y) (now (out .entry)) at r (now (out .exit)) ⌝ }
 {
-    match coordinate(x) {
-        Rounded::Bad => Put::Bad(at),
-        Rounded::To(sx, n) => match coordinate(y) {
-            Rounded::Bad => Put::Bad(at),
-            Rounded::To(sy, m) => put_text(out, at, draws, sx, n, sy, m),
-        },
+    match aim_at(x, y, Table::New) {
+        Aim::Bad => Put::Bad(at),
+        Aim::To(sx, n, sy, m) => put_text(out, at, draws, sx, n, sy, m),
     }
 }
 
 // A line from (x, y) to (z, w), which goes on from the last one or starts a chain.
 fn put_line(out: &mut [u8], at: usize, joined: bool, x: u32, y: u32, z: u32, w: u32) -> Put
     requires { ⌜ at ≤ length (now out) ⌝ }
-    ensures { λ r. ⌜ Continues (putLine (rangeOf Table.New) joined x y z w) (now (out .entry)) at r (now (out .exit)) ⌝ }
+    ensures { λ r. ⌜ Continues inBytes (putLine (rangeOf Table.New) joined x y z w) (now (out .entry)) at r (now (out .exit)) ⌝ }
 {
     if joined {
         return put_command(out, at, true, z, w);
@@ -82,7 +79,7 @@ fn put_line(out: &mut [u8], at: usize, joined: bool, x: u32, y: u32, z: u32, w: 
     }
 }
 
-fn goes_on(last: Last, x: u32, y: u32) -> bool
+pub(crate) fn goes_on(last: Last, x: u32, y: u32) -> bool
     ensures { λ r. ⌜ r ≡ goesOn last x y ⌝ }
 {
     match last {
@@ -94,7 +91,7 @@ fn goes_on(last: Last, x: u32, y: u32) -> bool
 // Record i, if it is of the path.
 fn put_record(list: &[u32], path: u32, i: usize, last: Last, out: &mut [u8], at: usize) -> Step
     requires { ⌜ at ≤ length (now out) ⌝ }
-    ensures { λ r. ⌜ Steps (now (list .entry)) path i last (now (out .entry)) at r (now (out .exit)) ⌝ }
+    ensures { λ r. ⌜ Steps inBytes (rangeOf Table.New) (now (list .entry)) path i last (now (out .entry)) at r (now (out .exit)) ⌝ }
 {
     if word_at(list, i, 0) != path {
         return Step::On(at, last);
@@ -114,7 +111,7 @@ fn put_record(list: &[u32], path: u32, i: usize, last: Last, out: &mut [u8], at:
 // The lines of the path, behind the first bytes.
 fn put_all(list: &[u32], path: u32, out: &mut [u8], start: usize) -> Cut
     requires { ⌜ start ≤ length (now out) ⌝ }
-    ensures { λ r. ⌜ outcome r (now (out .exit)) ≡ left (now (list .entry)) path (now (out .entry)) start Last.Nowhere 0 ⌝ }
+    ensures { λ r. ⌜ outcome r (now (out .exit)) ≡ left inBytes (rangeOf Table.New) (now (list .entry)) path (now (out .entry)) start Last.Nowhere 0 ⌝ }
 {
     let n = list.len() / 6;
     let mut at = start;

@@ -88,13 +88,34 @@ pub(crate) fn write_command(
 fn decimal_length(n: u32) -> usize
     ensures { λ r. ⌜ Long (decimal n) (n + 1) r ⌝ }
 {
-    let mut count: usize = 1;
-    let mut left = n;
-    while left >= 10 {
-        left = left / 10;
-        count += 1;
+    if n < 10 {
+        return 1;
     }
-    count
+    if n < 100 {
+        return 2;
+    }
+    if n < 1000 {
+        return 3;
+    }
+    if n < 10000 {
+        return 4;
+    }
+    if n < 100000 {
+        return 5;
+    }
+    if n < 1000000 {
+        return 6;
+    }
+    if n < 10000000 {
+        return 7;
+    }
+    if n < 100000000 {
+        return 8;
+    }
+    if n < 1000000000 {
+        return 9;
+    }
+    10
 }
 
 // How many bytes the text of a number has.

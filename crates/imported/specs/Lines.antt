@@ -44,7 +44,8 @@ end-finishes o =
     by-answer (o .pen) end (o .tags) (o .points) (λ o'. o' .number ≡ 0 → Finished o') (λ answer e z. absurd (eqb-false (numberOf answer) 0 e z))
     (λ m n f z. opened-then (o .pen) (placeOf (o .pen .place) end) _ (o .tags) (o .points))
 
-meaning-finishes : (cs : List Svg) (o : Outcome) → after o (meaning cs) .number ≡ 0 → Finished (after o (meaning cs))
+-- behind the last command of a text nothing is open
+pub meaning-finishes : (cs : List Svg) (o : Outcome) → after o (meaning cs) .number ≡ 0 → Finished (after o (meaning cs))
 unfolding meaning after
 meaning-finishes cs o z =
     let e : after o (meaning cs) ≡ next (after o (drawnFrom origin false cs)) end = after-append (drawnFrom origin false cs) (end ∷ []) o in

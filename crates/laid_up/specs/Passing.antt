@@ -7,7 +7,7 @@ use mathlib.Core.List.{List, [], _∷_, _++_}
 use native.Mathlib.Omega.{arith}
 use native.Mathlib.Decide.{ℕ-discrete, decLt}
 use lib.Dec.{eqb, ltb, leb, lit<}
-use lib.ListN.{length, getD, length-append, length-take, length-drop, take, drop}
+use lib.ListN.{length, getD, length-take, length-drop, take, drop}
 use borrow.Author.Tests.{eq-eqb, ne-eqb, eqb-true, eqb-false, lt-ltb, le-ltb, le-leb, lt-leb}
 use Rattle.records.specs.Record.{once}
 use Rattle.refusals.specs.Refusals.{Read, found}
@@ -19,7 +19,7 @@ use Rattle.scene.specs.declared.tags.PathMonoid.{PathMonoid}
 use Rattle.scene.specs.declared.tags.PathTagData.{PathTagData}
 use Rattle.pattern.specs.Commands.{same, wordsOf, Segment, line, quad, cubic, spots, target, Command}
 use Rattle.pattern.specs.Commands as commands
-use Rattle.pattern.specs.Meaning.{Subpath, endOf, segmentTags, tagsOf}
+use Rattle.pattern.specs.Meaning.{Subpath, endOf, tagsOf}
 use Rattle.pattern.specs.Encoded.{encoded}
 use Rattle.pattern.specs.Every.{Every, none, more}
 use Rattle.pattern.specs.Closed.{all-closed}
@@ -42,7 +42,7 @@ use Rattle.watertight.specs.Fill.{Call}
 use Rattle.watertight.specs.Fill as fills
 use Rattle.outlines.specs.Placing.{left, subpaths, Finished, tagWords, FreshCall, dataAt, Lent, transformAt, styleAt, FillAt}
 use Rattle.outlines.specs.Walk.{tagByte, Drawn, Walk, Walks}
-use Rattle.outlines.specs.Decode.{byte-is, inside, reach, length-tags, walked}
+use Rattle.outlines.specs.Decode.{byte-is, inside, reach, size-of, walked}
 use Rattle.outlines.specs.Lines.{word-there}
 use Rattle.outlines.specs.Sheet.{Begins, sheet-begins}
 use Rattle.laid_up.specs.Sheet.{sceneOf, headAt}
@@ -305,10 +305,6 @@ module _ (tags points : List ℕ) (cs : List Command) (e : Finished (left tags p
         | yes k ↦ subst At k (record { p = p; sg = g; last = false; drawn = w .0 })
         | no ne ↦ find-in (suc i) j (target g) (h ∷ gs) (w .1) (omega (arith, ne)) (omega arith)
       ]
-
-  size-of : (t : Subpath) (ss : List Subpath) → length (tagsOf (t ∷ ss)) ≡ length (t .segments) + length (tagsOf ss)
-  unfolding tagsOf
-  size-of t ss = length-append (segmentTags (t .segments)) (tagsOf ss) ∙ ap (λ (k : ℕ). k + length (tagsOf ss)) (length-tags (t .segments))
 
   find : (i j : ℕ) (ss : List Subpath) → Walks c 2 i ss → i ≤ j → j < i + length (tagsOf ss) → At j
   unfolding Walks tagsOf

@@ -98,11 +98,15 @@ module _ (c : Call) (p : Spot) (g : Segment) (last : Bool) where
 
 -- ---- all of them
 
-pub length-tags : (gs : List Segment) → length (segmentTags gs) ≡ length gs
+length-tags : (gs : List Segment) → length (segmentTags gs) ≡ length gs
 unfolding segmentTags
 length-tags [] = refl
 length-tags (g ∷ []) = refl
 length-tags (g ∷ h ∷ gs) = ap suc (length-tags (h ∷ gs))
+
+pub size-of : (s : Subpath) (ss : List Subpath) → length (tagsOf (s ∷ ss)) ≡ length (s .segments) + length (tagsOf ss)
+unfolding tagsOf
+size-of s ss = length-append (segmentTags (s .segments)) (tagsOf ss) ∙ ap (λ (k : ℕ). k + length (tagsOf ss)) (length-tags (s .segments))
 
 module _ (c : Call) (at n : ℕ) (known : (i : ℕ) → i < n → eqb (byteOf (tagWords c) i) 0 ≡ false → Known c i) where
   known-drawn : (i : ℕ) (p : Spot) (g : Segment) (last : Bool) → i < n → Drawn c at i p g last → Known c i
@@ -140,8 +144,7 @@ module _ (c : Call) (at n : ℕ) (known : (i : ℕ) → i < n → eqb (byteOf (t
   unfolding Walks tagsOf pieces decoded
   of-walks i [] l w = refl
   of-walks i (s ∷ ss) l w =
-      let size : length (segmentTags (s .segments) ++ tagsOf ss) ≡ length (s .segments) + length (tagsOf ss) =
-      length-append (segmentTags (s .segments)) (tagsOf ss) ∙ ap (λ (k : ℕ). k + length (tagsOf ss)) (length-tags (s .segments)) in
+      let size = size-of s ss in
       ap (decoded c i) size
       ∙ two-parts i (length (s .segments)) (length (tagsOf ss))
       ∙ ap (λ (ks : List Piece). ks ++ decoded c (i + length (s .segments)) (length (tagsOf ss))) (of-walk i (s .start) (s .segments) (omega (arith, size)) (w .0))

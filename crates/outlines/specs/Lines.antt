@@ -2,10 +2,10 @@
 use Prim.Native.Nat.{ℕ, suc, _+_, _-_, _*_, _%_, _^_, _<_, _≤_}
 use mathlib.Core.Path.{_≡_, refl, sym, ap, _∙_, subst}
 use mathlib.Core.Bool.{Bool, true, false}
-use mathlib.Core.List.{List, [], _∷_, _++_}
+use mathlib.Core.List.{List, [], _∷_}
 use native.Mathlib.Omega.{arith}
 use lib.Dec.{eqb, lit<}
-use lib.ListN.{length, getD, take, drop, length-append}
+use lib.ListN.{length, getD, take, drop}
 use lib.Seq.{getD-take, getD-drop}
 use Rattle.refusals.specs.Refusals.{found}
 use Rattle.scene.specs.Tags.{bit, tagData}
@@ -16,7 +16,7 @@ use Rattle.scene.specs.declared.tags.PathTagData.{PathTagData}
 use Rattle.flatten.specs.Found.{HeadParts, head-parts}
 use Rattle.pattern.specs.Commands.{same, wordsOf, numbers, Segment, line, quad, cubic, spots, target, Command}
 use Rattle.pattern.specs.Commands as commands
-use Rattle.pattern.specs.Meaning.{Subpath, endOf, allSpots, segmentTags, tagsOf}
+use Rattle.pattern.specs.Meaning.{Subpath, endOf, allSpots, tagsOf}
 use Rattle.pattern.specs.Encoded.{words-append, encoded}
 use Rattle.pattern.specs.Every.{Every, none, more}
 use Rattle.pattern.specs.Closed.{same-self, all-closed, numbers-append, numbers-parts}
@@ -26,9 +26,9 @@ use Rattle.watertight.specs.Fill.{Call, Accepted, tags, headOf, pointOf, firstO
 use Rattle.watertight.specs.Fill as fills
 use Rattle.watertight.specs.Accepted.{done}
 use Rattle.watertight.specs.Watertight.{watertight, watertight-stored}
-use Rattle.outlines.specs.Placing.{left, subpaths, Finished, tagWords, FreshCall, dataAt, transformAt, styleAt, FillAt, Placed, tagsFrom, outlines, ClosedRun, Watertight}
+use Rattle.outlines.specs.Placing.{left, subpaths, Finished, tagWords, FreshCall, dataAt, styleAt, sixWords, FillAt, Placed, tagsFrom, outlines, ClosedRun, Watertight}
 use Rattle.outlines.specs.Walk.{tagByte, Drawn, Walk, Walks}
-use Rattle.outlines.specs.Decode.{byte-is, length-tags, walked}
+use Rattle.outlines.specs.Decode.{byte-is, size-of, walked}
 
 -- a word that was found stands in the scene
 pub word-there : (n d j : ℕ) (scene ws : List ℕ) → take n (drop d scene) ≡ ws → j < n → getD scene (d + j) 0 ≡ getD ws j 0
@@ -37,9 +37,6 @@ word-there n d j scene ws e l = sym (getD-drop d scene j 0) ∙ sym (getD-take n
 -- ---- a tag that draws a segment
 
 module _ (c : Call) (a : Accepted c) (f : FreshCall c) (at : ℕ) (fill : FillAt c at) where
-  abbrev sixWords : List ℕ
-  sixWords = take 6 (drop (c .layout .«transform_base» + transformAt c at * 6) (c .scene))
-
   module _ (i : ℕ) (in-call : i < tags c) (p : Spot) (g : Segment) (last : Bool) (d : Drawn c at i p g last) where
     parts : HeadParts (c .layout) (c .scene) (c .prefixes) (length (c .boxes)) i (headOf c i)
     parts = head-parts (c .layout) (c .scene) (c .prefixes) (length (c .boxes)) i (headOf c i) (done c a .sound i in-call .head)
@@ -60,7 +57,7 @@ module _ (c : Call) (a : Accepted c) (f : FreshCall c) (at : ℕ) (fill : FillAt
         ap (flagsOf (c .scene) (c .layout .«style_base»)) (style ∙ there) ∙ fill .read in
         cc (parts .flags)
 
-    its-type : typeOf c i ≡ length (spots g)
+    pub its-type : typeOf c i ≡ length (spots g)
     unfolding tagData
     its-type = ap (λ (t : PathTagData). t .«tag_byte» % 4) its-tag ∙ byte-is g last .type
 
@@ -70,7 +67,7 @@ module _ (c : Call) (a : Accepted c) (f : FreshCall c) (at : ℕ) (fill : FillAt
     some-points (quad p q) = refl
     some-points (cubic p q r) = refl
 
-    filled : Filled c sixWords i
+    pub filled : Filled c (sixWords c at) i
     unfolding tagData
     filled =
         record {
@@ -87,7 +84,7 @@ module _ (c : Call) (a : Accepted c) (f : FreshCall c) (at : ℕ) (fill : FillAt
     unfolding pointOf tagData pointAt pointWords
     point-is k = rw (its-tag, byte-is g last .f32)
 
-    spot-at : (k : ℕ) (q : Spot) → k * 2 + 1 < length (wordsOf (p ∷ spots g)) → getD (wordsOf (p ∷ spots g)) (k * 2) 0 ≡ q .x → getD (wordsOf (p ∷ spots g)) (k * 2 + 1) 0 ≡ q .y
+    pub spot-at : (k : ℕ) (q : Spot) → k * 2 + 1 < length (wordsOf (p ∷ spots g)) → getD (wordsOf (p ∷ spots g)) (k * 2) 0 ≡ q .x → getD (wordsOf (p ∷ spots g)) (k * 2 + 1) 0 ≡ q .y
         → pointOf c i k ≡ commands.pointOf q
     unfolding f32Point
     spot-at k q l e e' =
@@ -138,7 +135,7 @@ module _ (c : Call) (a : Accepted c) (f : FreshCall c) (at : ℕ) (fill : FillAt
   abbrev behind : ℕ → List Segment → List ℕ
   behind i gs = tagsFrom (suc i) (length gs)
 
-  each-filled : (i : ℕ) (p : Spot) (g : Segment) (gs : List Segment) → i + length (g ∷ gs) ≤ tags c → Walk c at i p (g ∷ gs) → Each (Filled c sixWords) (i ∷ behind i gs)
+  each-filled : (i : ℕ) (p : Spot) (g : Segment) (gs : List Segment) → i + length (g ∷ gs) ≤ tags c → Walk c at i p (g ∷ gs) → Each (Filled c (sixWords c at)) (i ∷ behind i gs)
   unfolding Walk Each tagsFrom
   each-filled i p g [] l w = (filled i (omega arith) p g true w, tt)
   each-filled i p g (h ∷ gs) l w = (filled i (omega arith) p g false (w .0), each-filled (suc i) (target g) h gs (omega arith) (w .1))
@@ -170,7 +167,7 @@ module _ (c : Call) (a : Accepted c) (f : FreshCall c) (at : ℕ) (fill : FillAt
         first = i;
         others = behind i gs;
         tags = refl;
-        run = record { z = sixWords; filled = each-filled i p g gs l w; follows = follows i p g gs l n w };
+        run = record { z = sixWords c at; filled = each-filled i p g gs l w; follows = follows i p g gs l n w };
         closed = meets (final i (behind i gs)) i (endOf p (g ∷ gs)) p (ends-there i p g gs l w) (starts-there i p g gs l w) h;
       }
 
@@ -186,8 +183,7 @@ module _ (c : Call) (a : Accepted c) (f : FreshCall c) (at : ℕ) (fill : FillAt
   unfolding Walks outlines tagsOf
   all-runs i [] none l w = none
   all-runs i (s ∷ ss) (more k ks) l w =
-      let size : length (segmentTags (s .segments) ++ tagsOf ss) ≡ length (s .segments) + length (tagsOf ss) =
-      length-append (segmentTags (s .segments)) (tagsOf ss) ∙ ap (λ (n : ℕ). n + length (tagsOf ss)) (length-tags (s .segments)) in
+      let size = size-of s ss in
       more (closed-run i s k (omega (arith, size)) (w .0)) (all-runs (i + length (s .segments)) ss ks (omega (arith, size)) (w .1))
 
 -- ---- the theorems

@@ -1,5 +1,5 @@
 -- Where a caller puts what commands wrote, and what is decoded there by the scene's own definitions. Definitions only.
-use Prim.Native.Nat.{ℕ, zero, suc, _+_, _/_, _%_, _^_, _<_, _≤_}
+use Prim.Native.Nat.{ℕ, zero, suc, _+_, _*_, _/_, _%_, _^_, _<_, _≤_}
 use mathlib.Core.Path.{_≡_}
 use mathlib.Core.Bool.{Bool, true, false, _&&_, cond}
 use mathlib.Core.List.{List, [], _∷_, _++_}
@@ -67,6 +67,10 @@ transformAt c i = less (sumsTo (tagWords c) i .«trans_ix») 1
 
 abbrev pub styleAt : Call → ℕ → ℕ
 styleAt c i = less (sumsTo (tagWords c) i .«style_ix») 2
+
+-- the six words of that transform
+abbrev pub sixWords : Call → ℕ → List ℕ
+sixWords c i = take 6 (drop (c .layout .«transform_base» + transformAt c i * 6) (c .scene))
 
 -- the style that holds at a tag is a fill
 pub record FillAt (c : Call) (i : ℕ) : Type 0 where

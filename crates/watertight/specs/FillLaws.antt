@@ -57,7 +57,7 @@ is-fill layout scene prefixes ix h s f e = filled (rw f at e)
     filled : found Fill ≡ found s → s ≡ Fill
     filled k = cc
 
-fill-events : (layout : Layout) (scene prefixes : List ℕ) (ix : ℕ) (h : Head) (es : List Event)
+pub fill-events : (layout : Layout) (scene prefixes : List ℕ) (ix : ℕ) (h : Head) (es : List Event)
     → eqb (h .tag .«tag_byte» % 4) 0 ≡ false → isStroke h ≡ false → eventsAt layout scene prefixes ix h ≡ found es
     → fillEvents (floatsAt scene (layout .«transform_base» + h .tag .monoid .«trans_ix» * 6))
     (cubicOf (h .tag .«tag_byte» % 4) false scene (wide (h .tag .«tag_byte»)) (layout .«data_base» + h .tag .monoid .«pathseg_offset»))

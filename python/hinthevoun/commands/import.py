@@ -5,12 +5,13 @@ from ..cli import DONE, REFUSED, Parser
 from ..drawing import Sheet
 from ..errors import Wrong
 from ..files import name_of, same, source, target
-from ..importing import NOT_PATH_DATA, NotImported
+from ..importing import NotImported
 from ..opening import load
 from ..progress import Progress
-from ..saying import count, quoted, say
-from ..svg.document import Found, found_in
+from ..saying import count, say
+from ..svg.document import Found, found_in, is_svg
 from ..svg.placing import IDENTITY, NotPlaced, floats_of
+from ..svg.telling import about_path_data
 from ..words import rows_of
 
 HELP = """usage: hinth import FILE [--only ID ...] [-o SHEET]
@@ -39,22 +40,12 @@ of its path data and what to do, and nothing is written. --only chooses what is 
 The exit status is 0 if the sheet is written, 1 if something is refused, 2 for bad input.
 """
 
-ABSOLUTE = ("save with absolute coordinates: in Inkscape, Preferences, Input/Output, SVG output, Path string format: Absolute")
-CURVES = ("make that piece a curve: in Inkscape, select its nodes and press Shift+U, or Path, Object to Path")
-EXPONENT = "save with fewer digits behind the point: an exponent is not taken"
-CONTEXT = 12  # bytes that are shown before and behind the place
-
 
 def arguments(parser: Parser) -> None:
     """What the command takes."""
     parser.add_argument("file", metavar="FILE")
     parser.add_argument("--only", nargs="+", metavar="ID", default=[])
     parser.add_argument("-o", dest="sheet", metavar="SHEET", default="-")
-
-
-def is_svg(document: bytes) -> bool:
-    """Whether it is XML, and not path data alone."""
-    return document.lstrip(b"\xef\xbb\xbf \t\r\n").startswith(b"<") or document[:2] in (b"\xfe\xff", b"\xff\xfe")
 
 
 def chosen(name: str, document: bytes, only: List[str]) -> List[Found]:
@@ -76,31 +67,12 @@ def chosen(name: str, document: bytes, only: List[str]) -> List[Found]:
     return taken
 
 
-def cure_of(refused: NotImported, data: bytes) -> str:
-    """What to do about path data that was left at a byte."""
-    byte = data[refused.byte:refused.byte + 1]
-    if refused.number != NOT_PATH_DATA:
-        return refused.reason.cure
-    if byte in (b"e", b"E"):
-        return EXPONENT
-    return CURVES if byte and byte in b"HVSTA" else ABSOLUTE
-
-
-def about_refusal(refused: NotImported, data: bytes) -> str:
-    """The place with what stands around it, why, and what to do."""
-    at = refused.byte
-    where = f"behind {quoted(data[max(0, at - CONTEXT):at])}" if at else "at its beginning"
-    there = f", at {quoted(data[at:at + CONTEXT])}" if at < len(data) else ", where it ends"
-    return (f"refused {refused.number} at byte {at:,} of its path data, {where}{there}: {refused.reason.why}; "
-            f"{cure_of(refused, data)}")
-
-
 def draw(sheet: Sheet, shape: Found) -> None:
     """Draws one path into the sheet. Raises NotPlaced."""
     try:
         sheet.place(floats_of(shape.transform)).data(shape.data).path(shape.even_odd)
     except NotImported as refused:
-        raise NotPlaced(f"{shape.name}: {about_refusal(refused, shape.data)}") from None
+        raise NotPlaced(f"{shape.name}: {about_path_data(refused.number, refused.byte, shape.data)}") from None
     except NotPlaced as why:
         raise NotPlaced(f"{shape.name} is not imported: {why}") from None
 

@@ -7,6 +7,7 @@ from xml.sax.saxutils import escape
 from ..columns import Lines, finite_points, place_of, places_of
 from ..mending import APPENDED
 from ..saying import count
+from ..svg.outlines import commands_of
 from . import ink
 from .counting import Found, Outline, boxes_shown, chains_of, kinds_of, runs_of, shared_and_alone
 from .geometry import Frame, Place, heads_along
@@ -27,22 +28,34 @@ MOST_RINGS = 10_000
 MOST_LINES = 1000
 # Elements with one tag's lines each. With more, lines of several tags share an element and its title.
 MOST_TAGS = 20_000
+# The outline of a drawing under its lines.
+UNDER_COLOUR, UNDER_WIDTH = "#f5cf9a", 7
 # Where one tag is asked for: how wide its lines are in one list, and how much is left of the colour of all others.
 STRONG, PALE = 5, 0.45
 
 Colours = Callable[[int], str]  # of a path
 
 
+class Under(NamedTuple):
+    """An outline that lies under the lines: path data that the library takes, and the six numbers that take it to the lines'
+    units."""
+
+    data: str
+    matrix: Tuple[float, ...]
+
+
 class Wishes(NamedTuple):
     """What is asked of a picture: how many millimetres a unit has, if that is known, whether arrows are drawn, whether
-    what a fill inks is shaded, the tag whose lines are drawn strong, if there is one, and for how many tags an element
-    of its own is not too much."""
+    what a fill inks is shaded, the tag whose lines are drawn strong, if there is one, for how many tags an element
+    of its own is not too much, whether y grows upward, and what lies under the lines of one list."""
 
     millimetres: Optional[float] = None
     arrows: bool = False
     ink: bool = False
     tag: Optional[int] = None
     most_tags: int = MOST_TAGS
+    up: bool = False
+    under: Optional[Under] = None
 
 
 class Layer(NamedTuple):
@@ -88,7 +101,7 @@ def inked(marks: Iterable[str], colour: str, width: float, more: str = "") -> st
             f'{more}>{"".join(marks)}</g>')
 
 
-def frame_of(lists: List[Found]) -> Frame:
+def frame_of(lists: List[Found], up: bool = False) -> Frame:
     xs: List[float] = []
     ys: List[float] = []
     for found in lists:
@@ -96,7 +109,7 @@ def frame_of(lists: List[Found]) -> Frame:
         corners = [box[i:i + 2] for box in boxes_shown(found).values() for i in (0, 2)]
         for column, more in ((xs, 0), (ys, 1)):
             column += [*places_of(lines.starts)[more], *places_of(lines.ends)[more], *(c[more] for c in corners)]
-    return Frame(xs, ys)
+    return Frame(xs, ys, up)
 
 
 def places_along(lines: Lines, chain: slice, frame: Frame) -> List[Place]:
@@ -217,6 +230,16 @@ def outside_drawn(found: Found, frame: Frame) -> List[str]:
     return [inked(lines, RED, 1, ' class="outside" pointer-events="none"')] if lines else []
 
 
+def under_drawn(under: Under, frame: Frame) -> str:
+    """The outline under the lines. The pointer goes through it, to a line."""
+    a, b, c, d, e, f = under.matrix
+    parts: List[str] = []
+    for letter, numbers in commands_of(under.data):
+        places = [(a * x + c * y + e, b * x + d * y + f) for x, y in zip(numbers[0::2], numbers[1::2])]
+        parts += [letter, *(pair(frame.at(place)) for place in places)]
+    return inked([f'<path d="{" ".join(parts)}"/>'], UNDER_COLOUR, UNDER_WIDTH, ' class="under" pointer-events="none"')
+
+
 def ring(outline: Outline, point: int, frame: Frame, radius: int) -> str:
     place, (starts, ends) = place_of(point), outline.open[point]
     cx, cy = map(digits, frame.at(place))
@@ -258,7 +281,8 @@ def list_colours() -> List[Colours]:
 
 
 def one_drawn(found: Found, frame: Frame, wishes: Wishes) -> List[str]:
-    drawn = ink_drawn(found, frame, path_colour) if wishes.ink else []
+    drawn = [under_drawn(wishes.under, frame)] if wishes.under else []
+    drawn += ink_drawn(found, frame, path_colour) if wishes.ink else []
     drawn += boxes_drawn(found, frame, path_colour, 0, Counter())
     colours = [path_colour(outline.path) for outline in found.outlines]
     layers = [Layer(outline.lines, colour, 2, (colour, STRONG)) for outline, colour in zip(found.outlines, colours)]

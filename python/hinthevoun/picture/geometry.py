@@ -15,19 +15,20 @@ class Frame:
     """The part of the device that is drawn, and where its points lie on the picture.
 
     Its corner lies at 0, 0: far from the device's origin a point and a shift would both be large, and viewers, which
-    count in f32, would cut off what their difference needs. The scale is a power of two.
+    count in f32, would cut off what their difference needs. The scale is a power of two. With `up`, y grows upward.
     """
 
-    def __init__(self, xs: Sequence[float], ys: Sequence[float]) -> None:
-        self.is_empty = not xs
+    def __init__(self, xs: Sequence[float], ys: Sequence[float], up: bool = False) -> None:
+        self.is_empty, self.up = not xs, up
         self.x0, self.x1 = (min(xs), max(xs)) if xs else (0, 0)
         self.y0, self.y1 = (min(ys), max(ys)) if ys else (0, 0)
         longest = max(self.x1 - self.x0, self.y1 - self.y0)
         self.scale = math.ldexp(1, math.frexp(LONGEST / longest)[1] - 1) if longest else 1.0
-        self.width, self.height = self.at((self.x1, self.y1))
+        self.width, self.height = (self.x1 - self.x0) * self.scale, (self.y1 - self.y0) * self.scale
 
     def at(self, place: Sequence[float]) -> Place:
-        return (place[0] - self.x0) * self.scale, (place[1] - self.y0) * self.scale
+        x, y = place
+        return (x - self.x0) * self.scale, (self.y1 - y if self.up else y - self.y0) * self.scale
 
     def all_at(self, points: Iterable[int]) -> List[Place]:
         return [self.at(place) for place in zip(*places_of(array("Q", points)))]

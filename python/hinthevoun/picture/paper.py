@@ -3,8 +3,8 @@ import math
 from typing import Callable, List, NamedTuple, Optional, Tuple
 
 from .counting import Found, Outline
-from .drawing import (ALONE, GREY, INK, MENDED_COLOUR, MENDED_WIDTH, RED, SHARED, STRONG, Wishes, frame_of, inked,
-                      one_drawn, pair, pale, path_colour, rectangle, text, two_drawn, way)
+from .drawing import (ALONE, GREY, INK, MENDED_COLOUR, MENDED_WIDTH, RED, SHARED, STRONG, UNDER_COLOUR, UNDER_WIDTH,
+                      Wishes, frame_of, inked, one_drawn, pair, pale, path_colour, rectangle, text, two_drawn, way)
 from .geometry import Frame, round_length
 from .ink import is_inked, rule_of
 from .telling import (about_appended, about_boxes, about_left, about_lines, about_outline, about_tag, lacks_of, notes_of,
@@ -106,6 +106,8 @@ def key_rows(frame: Frame, wishes: Wishes, moves: bool, outside: bool) -> List[R
         rows.append(Row("move with the pen up", GREY, mark=mark))
     if outside:
         rows.append(Row("line that the old table does not take", GREY, mark=sample((RED, 1))))
+    if wishes.under:
+        rows.append(Row("the outline of the drawing", GREY, mark=sample((UNDER_COLOUR, UNDER_WIDTH))))
     if wishes.ink:
         mark = f'<g fill="{GREY}" fill-opacity="0.3">{rectangle((4, -6), (SWATCH - 10, 6))}</g>'
         rows.append(Row("ink: what a fill of the path covers, by its own rule", GREY, mark=mark))
@@ -116,7 +118,7 @@ def key_rows(frame: Frame, wishes: Wishes, moves: bool, outside: bool) -> List[R
         rows.append(Row("the way a line runs, from start to end", GREY, mark=head))
     if not frame.is_empty:
         rows += [Row(extent("x", frame.x0, "rightward", frame.x1, wishes.millimetres), GREY),
-                 Row(extent("y", frame.y0, "downward", frame.y1, wishes.millimetres), GREY)]
+                 Row(extent("y", frame.y0, "upward" if frame.up else "downward", frame.y1, wishes.millimetres), GREY)]
     return rows
 
 
@@ -159,7 +161,7 @@ class Paper(NamedTuple):
 
 def paper_of(lists: List[Found], wishes: Wishes) -> Paper:
     """The paper of one list, or of two."""
-    frame, head = frame_of(lists), head_of(lists)
+    frame, head = frame_of(lists, wishes.up), head_of(lists)
     if len(lists) == 1:
         drawn, legend = one_drawn(lists[0], frame, wishes), one_rows(lists[0], wishes)
     else:

@@ -32,6 +32,7 @@ class Found(NamedTuple):
     transform  its own behind those of its groups
     even_odd   whether fill-rule is evenodd
     why        why it is not imported, or nothing
+    own_id     its own id, or nothing
     """
 
     name: str
@@ -40,6 +41,20 @@ class Found(NamedTuple):
     transform: Matrix
     even_odd: bool
     why: str
+    own_id: str = ""
+
+
+class Document(NamedTuple):
+    """What is read of a drawing.
+
+    found       its paths and shapes, in its order
+    attributes  those of its outermost element, which say how large it is
+    sheets      the text of its style sheets, without comments
+    """
+
+    found: List[Found]
+    attributes: Dict[str, str]
+    sheets: str
 
 
 class Frame(NamedTuple):
@@ -52,15 +67,25 @@ class Frame(NamedTuple):
     why: str = ""
 
 
-def found_in(name: str, document: bytes) -> List[Found]:
-    """All paths and shapes of a document, in its order. Raises Wrong where it is no SVG, or has a style sheet that matters."""
+def is_svg(document: bytes) -> bool:
+    """Whether it begins as XML does."""
+    return document.lstrip(b"\xef\xbb\xbf \t\r\n").startswith(b"<") or document[:2] in (b"\xfe\xff", b"\xff\xfe")
+
+
+def document_of(name: str, data: bytes) -> Document:
+    """A document with all its paths and shapes. Raises Wrong where it is no SVG, or has a style sheet that matters."""
     reader = _Reader(name)
     try:
-        reader.parser.Parse(document, True)
+        reader.parser.Parse(data, True)
     except expat.ExpatError as error:
         why = expat.errors.messages[error.code]
         raise Wrong(f"{name}:{error.lineno}: {why}: it is damaged, or no SVG: save it again") from None
-    return reader.found
+    return Document(reader.found, reader.attributes, " ".join(reader.sheets))
+
+
+def found_in(name: str, data: bytes) -> List[Found]:
+    """All paths and shapes of a document, in its order. Raises Wrong as `document_of` does."""
+    return document_of(name, data).found
 
 
 class _Reader:
@@ -68,6 +93,8 @@ class _Reader:
 
     def __init__(self, name: str) -> None:
         self.name, self.found, self.frames = name, [], []  # type: str, List[Found], List[Frame]
+        self.attributes: Dict[str, str] = {}  # of the outermost element
+        self.sheets: List[str] = []
         self.sheet: Optional[List[str]] = None  # the text of a style sheet while it is read
         self.parser = expat.ParserCreate(namespace_separator=" ")
         self.parser.buffer_text = True
@@ -97,6 +124,7 @@ class _Reader:
             raise Wrong(f"{self.name}: its outermost element is {printable(element)!r}, and not an SVG's: save it as plain SVG")
         if "transform" in attributes:
             raise Wrong(f"{self.name}: the svg element itself has a transform, which is not taken: put it on a group")
+        self.attributes = attributes
         return self.within(Frame(), attributes)
 
     @staticmethod
@@ -125,7 +153,7 @@ class _Reader:
         elif not frame.visible:
             why = why or "it is hidden; show it, or take it out of the drawing"
         name, data = f"{kind}{own} (line {self.parser.CurrentLineNumber:,})", attributes.get("d", "").encode()
-        return Found(name, frame.ids, data, frame.transform, frame.even_odd, why)
+        return Found(name, frame.ids, data, frame.transform, frame.even_odd, why, attributes.get("id", ""))
 
     def ends(self, _: str) -> None:
         """The element that began last."""
@@ -133,6 +161,7 @@ class _Reader:
         if self.sheet is not None:
             text, self.sheet = _COMMENT.sub(" ", "".join(self.sheet)), None
             self.refuse_sheet(_SHEET.search(text))
+            self.sheets.append(text)
 
     def refuse_sheet(self, said: Optional["re.Match[str]"]) -> None:
         """A style sheet that says what is read from attributes alone."""

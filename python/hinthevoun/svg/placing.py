@@ -5,7 +5,8 @@ import struct
 from fractions import Fraction
 from typing import Callable, Dict, NamedTuple, Tuple
 
-_NUMBER = r"[+-]?(?:\d*\.\d+|\d+)(?:[eE][+-]?\d{1,3})?"
+# No drawing needs a hundred digits, and Python itself reads no number of very many.
+_NUMBER = r"[+-]?(?:\d{0,99}\.\d{1,99}|\d{1,99})(?:[eE][+-]?\d{1,3})?"
 _NUMBERS = re.compile(rf"\s*{_NUMBER}(?:(?:\s*,\s*|\s+|(?=[+-])){_NUMBER})*\s*")
 _FUNCTION = re.compile(r"\s*([A-Za-z]+)\s*\(([^()]*)\)\s*(,(?=\s*\w))?")
 

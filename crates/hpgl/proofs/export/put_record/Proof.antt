@@ -1,7 +1,9 @@
 -- `hpgl::export::put_record` meets its contract. Assumes nothing.
 use borrow.Author.Needs.{needs}
 use mathlib.Core.Path.{_∙_, sym}
-use Rattle.hpgl.specs.ExportLaws.{other-path, its-line}
+use Rattle.hpgl.specs.Form.{rangeOf}
+use Rattle.hpgl.specs.declared.Table.the-variants.{New}
+use Rattle.hpgl.specs.ExportLaws.{inBytes, other-path, its-line}
 use Rattle.hpgl.proofs.export.put_record.Statement.{statement}
 use Rattle.hpgl.proofs.export.put_record.Tie as tie
 
@@ -9,7 +11,7 @@ word-at-requires : tie.Need-word-at-requires
 word-at-requires c κs = search needs
 
 returns : tie.Need-returns
-returns c = other-path (c .before .before .before .before .args .list .now) (c .before .before .before .before .args .path) (c .before .before .before .before .args .i) (c .before .before .before .before .args .last) (c .before .before .before .before .args .out .now) (c .before .before .before .before .args .at) (λ e. c .if1 .taken (c .before .word-at .ensures ∙ e)) (c .before .before .before .before .pre)
+returns c = other-path inBytes (rangeOf New) (c .before .before .before .before .args .list .now) (c .before .before .before .before .args .path) (c .before .before .before .before .args .i) (c .before .before .before .before .args .last) (c .before .before .before .before .args .out .now) (c .before .before .before .before .args .at) (λ e. c .if1 .taken (c .before .word-at .ensures ∙ e)) (c .before .before .before .before .pre)
 
 word-at-requires-2 : tie.Need-word-at-requires-2
 word-at-requires-2 c κs = search needs
@@ -42,19 +44,19 @@ same-length : tie.Need-same-length
 same-length c = search needs
 
 returns-2 : tie.Need-returns-2
-returns-2 c = its-line (c .before .before .before .before .before .before .before .before .before .before .before .before .before .before .before .before .args .list .now) (c .before .before .before .before .before .before .before .before .before .before .before .before .before .before .before .before .args .path) (c .before .before .before .before .before .before .before .before .before .before .before .before .before .before .before .before .args .i) (c .before .before .before .before .before .before .before .before .before .before .before .before .before .before .before .before .args .last) (c .before .before .before .before .before .before .before .before .before .before .before .before .before .before .before .before .args .out .now) (c .before .before .before .before .before .before .before .before .before .before .before .before .before .before .before .before .args .at) (sym (c .before .before .before .before .before .before .before .before .before .before .before .before .before .word-at .ensures) ∙ c .before .before .before .before .before .before .before .before .before .before .before .before .if1 .left) (c .before .before .before .before .before .before .before .before .before .before .before .word-at2 .result) (c .before .before .before .before .before .before .before .before .before .before .word-at3 .result) (c .before .before .before .before .before .before .before .before .before .word-at4 .result) (c .before .before .before .before .before .before .before .before .word-at5 .result) (c .before .before .before .before .before .before .before .goes-on .result) (c .before .before .before .before .before .before .before .before .before .before .before .word-at2 .ensures) (c .before .before .before .before .before .before .before .before .before .before .word-at3 .ensures) (c .before .before .before .before .before .before .before .before .before .word-at4 .ensures) (c .before .before .before .before .before .before .before .before .word-at5 .ensures) (c .before .before .before .before .before .before .before .goes-on .ensures) (c .before .before .before .before .before .put-line .result) _ _ (c .before .before .before .before .before .put-line .ensures) (c .before .a .given .1)
+returns-2 c = its-line inBytes (rangeOf New) (c .before .before .before .before .before .before .before .before .before .before .before .before .before .before .before .before .args .list .now) (c .before .before .before .before .before .before .before .before .before .before .before .before .before .before .before .before .args .path) (c .before .before .before .before .before .before .before .before .before .before .before .before .before .before .before .before .args .i) (c .before .before .before .before .before .before .before .before .before .before .before .before .before .before .before .before .args .last) (c .before .before .before .before .before .before .before .before .before .before .before .before .before .before .before .before .args .out .now) (c .before .before .before .before .before .before .before .before .before .before .before .before .before .before .before .before .args .at) (sym (c .before .before .before .before .before .before .before .before .before .before .before .before .before .word-at .ensures) ∙ c .before .before .before .before .before .before .before .before .before .before .before .before .if1 .left) (c .before .before .before .before .before .before .before .before .before .before .before .word-at2 .result) (c .before .before .before .before .before .before .before .before .before .before .word-at3 .result) (c .before .before .before .before .before .before .before .before .before .word-at4 .result) (c .before .before .before .before .before .before .before .before .word-at5 .result) (c .before .before .before .before .before .before .before .goes-on .result) (c .before .before .before .before .before .before .before .before .before .before .before .word-at2 .ensures) (c .before .before .before .before .before .before .before .before .before .before .word-at3 .ensures) (c .before .before .before .before .before .before .before .before .before .word-at4 .ensures) (c .before .before .before .before .before .before .before .before .word-at5 .ensures) (c .before .before .before .before .before .before .before .goes-on .ensures) (c .before .before .before .before .before .put-line .result) _ _ (c .before .before .before .before .before .put-line .ensures) (c .before .a .given .1)
 
 same-length-2 : tie.Need-same-length-2
 same-length-2 c = search needs
 
 returns-3 : tie.Need-returns-3
-returns-3 c = its-line (c .before .before .before .before .before .before .before .before .before .before .before .before .before .before .before .before .args .list .now) (c .before .before .before .before .before .before .before .before .before .before .before .before .before .before .before .before .args .path) (c .before .before .before .before .before .before .before .before .before .before .before .before .before .before .before .before .args .i) (c .before .before .before .before .before .before .before .before .before .before .before .before .before .before .before .before .args .last) (c .before .before .before .before .before .before .before .before .before .before .before .before .before .before .before .before .args .out .now) (c .before .before .before .before .before .before .before .before .before .before .before .before .before .before .before .before .args .at) (sym (c .before .before .before .before .before .before .before .before .before .before .before .before .before .word-at .ensures) ∙ c .before .before .before .before .before .before .before .before .before .before .before .before .if1 .left) (c .before .before .before .before .before .before .before .before .before .before .before .word-at2 .result) (c .before .before .before .before .before .before .before .before .before .before .word-at3 .result) (c .before .before .before .before .before .before .before .before .before .word-at4 .result) (c .before .before .before .before .before .before .before .before .word-at5 .result) (c .before .before .before .before .before .before .before .goes-on .result) (c .before .before .before .before .before .before .before .before .before .before .before .word-at2 .ensures) (c .before .before .before .before .before .before .before .before .before .before .word-at3 .ensures) (c .before .before .before .before .before .before .before .before .before .word-at4 .ensures) (c .before .before .before .before .before .before .before .before .word-at5 .ensures) (c .before .before .before .before .before .before .before .goes-on .ensures) (c .before .before .before .before .before .put-line .result) _ _ (c .before .before .before .before .before .put-line .ensures) (c .before .n .given .1)
+returns-3 c = its-line inBytes (rangeOf New) (c .before .before .before .before .before .before .before .before .before .before .before .before .before .before .before .before .args .list .now) (c .before .before .before .before .before .before .before .before .before .before .before .before .before .before .before .before .args .path) (c .before .before .before .before .before .before .before .before .before .before .before .before .before .before .before .before .args .i) (c .before .before .before .before .before .before .before .before .before .before .before .before .before .before .before .before .args .last) (c .before .before .before .before .before .before .before .before .before .before .before .before .before .before .before .before .args .out .now) (c .before .before .before .before .before .before .before .before .before .before .before .before .before .before .before .before .args .at) (sym (c .before .before .before .before .before .before .before .before .before .before .before .before .before .word-at .ensures) ∙ c .before .before .before .before .before .before .before .before .before .before .before .before .if1 .left) (c .before .before .before .before .before .before .before .before .before .before .before .word-at2 .result) (c .before .before .before .before .before .before .before .before .before .before .word-at3 .result) (c .before .before .before .before .before .before .before .before .before .word-at4 .result) (c .before .before .before .before .before .before .before .before .word-at5 .result) (c .before .before .before .before .before .before .before .goes-on .result) (c .before .before .before .before .before .before .before .before .before .before .before .word-at2 .ensures) (c .before .before .before .before .before .before .before .before .before .before .word-at3 .ensures) (c .before .before .before .before .before .before .before .before .before .word-at4 .ensures) (c .before .before .before .before .before .before .before .before .word-at5 .ensures) (c .before .before .before .before .before .before .before .goes-on .ensures) (c .before .before .before .before .before .put-line .result) _ _ (c .before .before .before .before .before .put-line .ensures) (c .before .n .given .1)
 
 same-length-3 : tie.Need-same-length-3
 same-length-3 c = search needs
 
 returns-4 : tie.Need-returns-4
-returns-4 c = its-line (c .before .before .before .before .before .before .before .before .before .before .before .before .before .before .before .before .args .list .now) (c .before .before .before .before .before .before .before .before .before .before .before .before .before .before .before .before .args .path) (c .before .before .before .before .before .before .before .before .before .before .before .before .before .before .before .before .args .i) (c .before .before .before .before .before .before .before .before .before .before .before .before .before .before .before .before .args .last) (c .before .before .before .before .before .before .before .before .before .before .before .before .before .before .before .before .args .out .now) (c .before .before .before .before .before .before .before .before .before .before .before .before .before .before .before .before .args .at) (sym (c .before .before .before .before .before .before .before .before .before .before .before .before .before .word-at .ensures) ∙ c .before .before .before .before .before .before .before .before .before .before .before .before .if1 .left) (c .before .before .before .before .before .before .before .before .before .before .before .word-at2 .result) (c .before .before .before .before .before .before .before .before .before .before .word-at3 .result) (c .before .before .before .before .before .before .before .before .before .word-at4 .result) (c .before .before .before .before .before .before .before .before .word-at5 .result) (c .before .before .before .before .before .before .before .goes-on .result) (c .before .before .before .before .before .before .before .before .before .before .before .word-at2 .ensures) (c .before .before .before .before .before .before .before .before .before .before .word-at3 .ensures) (c .before .before .before .before .before .before .before .before .before .word-at4 .ensures) (c .before .before .before .before .before .before .before .before .word-at5 .ensures) (c .before .before .before .before .before .before .before .goes-on .ensures) (c .before .before .before .before .before .put-line .result) _ _ (c .before .before .before .before .before .put-line .ensures) (c .before .n2 .given .1)
+returns-4 c = its-line inBytes (rangeOf New) (c .before .before .before .before .before .before .before .before .before .before .before .before .before .before .before .before .args .list .now) (c .before .before .before .before .before .before .before .before .before .before .before .before .before .before .before .before .args .path) (c .before .before .before .before .before .before .before .before .before .before .before .before .before .before .before .before .args .i) (c .before .before .before .before .before .before .before .before .before .before .before .before .before .before .before .before .args .last) (c .before .before .before .before .before .before .before .before .before .before .before .before .before .before .before .before .args .out .now) (c .before .before .before .before .before .before .before .before .before .before .before .before .before .before .before .before .args .at) (sym (c .before .before .before .before .before .before .before .before .before .before .before .before .before .word-at .ensures) ∙ c .before .before .before .before .before .before .before .before .before .before .before .before .if1 .left) (c .before .before .before .before .before .before .before .before .before .before .before .word-at2 .result) (c .before .before .before .before .before .before .before .before .before .before .word-at3 .result) (c .before .before .before .before .before .before .before .before .before .word-at4 .result) (c .before .before .before .before .before .before .before .before .word-at5 .result) (c .before .before .before .before .before .before .before .goes-on .result) (c .before .before .before .before .before .before .before .before .before .before .before .word-at2 .ensures) (c .before .before .before .before .before .before .before .before .before .before .word-at3 .ensures) (c .before .before .before .before .before .before .before .before .before .word-at4 .ensures) (c .before .before .before .before .before .before .before .before .word-at5 .ensures) (c .before .before .before .before .before .before .before .goes-on .ensures) (c .before .before .before .before .before .put-line .result) _ _ (c .before .before .before .before .before .put-line .ensures) (c .before .n2 .given .1)
 
 pub put-record-spec : {M : Type 1} → statement M
 put-record-spec =

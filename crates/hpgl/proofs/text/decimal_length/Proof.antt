@@ -1,34 +1,50 @@
 -- `hpgl::text::decimal_length` meets its contract. Assumes nothing.
-use mathlib.Core.Path.{_≡_}
-use Prim.Native.Nat.{_+_, _≤_}
 use native.Mathlib.Omega.{arith}
-use lib.ListN.{length}
-use Rattle.hpgl.specs.Text.{decimal}
-use Rattle.hpgl.specs.TextLaws.{length-small, length-tens}
+use Rattle.hpgl.specs.TextLaws.{long-small, long-between}
 use Rattle.hpgl.proofs.text.decimal_length.Statement.{statement}
 use Rattle.hpgl.proofs.text.decimal_length.Tie as tie
 
-abbrev Inv-loop : tie.InvT-loop
-Inv-loop n count₀ left₀ count left = (count + length (decimal left) ≡ length (decimal n) + 1) × (count + left ≤ n + 1)
+returns : tie.Need-returns
+returns c = long-small (c .before .args .n) (c .if1 .taken)
 
-abbrev μ-loop : tie.MeasureT-loop
-μ-loop n count₀ left₀ count left = left
+returns-2 : tie.Need-returns-2
+returns-2 c = long-between 1 (c .before .before .args .n) (c .before .if1 .left) (c .if2 .taken)
 
-loop-holds : tie.Need-loop-holds Inv-loop μ-loop
-loop-holds c = (omega arith, omega arith)
+returns-3 : tie.Need-returns-3
+returns-3 c = long-between 2 (c .before .before .before .args .n) (c .before .if2 .left) (c .if3 .taken)
 
-add-count : tie.Need-add-count Inv-loop μ-loop
-add-count c = omega arith
+returns-4 : tie.Need-returns-4
+returns-4 c = long-between 3 (c .before .before .before .before .args .n) (c .before .if3 .left) (c .if4 .taken)
 
-loop-less : tie.Need-loop-less Inv-loop μ-loop
-loop-less c = omega arith
+returns-5 : tie.Need-returns-5
+returns-5 c = long-between 4 (c .before .before .before .before .before .args .n) (c .before .if4 .left) (c .if5 .taken)
 
-loop-again : tie.Need-loop-again Inv-loop μ-loop
-loop-again c = (omega (arith, length-tens (c .before .loop .left) (c .loop-test .taken)), omega arith)
+returns-6 : tie.Need-returns-6
+returns-6 c = long-between 5 (c .before .before .before .before .before .before .args .n) (c .before .if5 .left) (c .if6 .taken)
 
-returns : tie.Need-returns Inv-loop μ-loop
-returns c = record { is = omega (arith, length-small (c .before .loop .left) (c .loop-test .left)); few = omega arith }
+returns-7 : tie.Need-returns-7
+returns-7 c = long-between 6 (c .before .before .before .before .before .before .before .args .n) (c .before .if6 .left) (c .if7 .taken)
+
+returns-8 : tie.Need-returns-8
+returns-8 c = long-between 7 (c .before .before .before .before .before .before .before .before .args .n) (c .before .if7 .left) (c .if8 .taken)
+
+returns-9 : tie.Need-returns-9
+returns-9 c = long-between 8 (c .before .before .before .before .before .before .before .before .before .args .n) (c .before .if8 .left) (c .if9 .taken)
+
+returns-10 : tie.Need-returns-10
+returns-10 c = long-between 9 (c .before .before .before .before .before .before .before .before .before .args .n) (c .if9 .left) (omega arith)
 
 pub decimal-length-spec : {M : Type 1} → statement M
 decimal-length-spec =
-    tie.close (tie.spec Inv-loop μ-loop loop-holds add-count loop-less loop-again returns)
+    tie.close
+    (tie.spec
+    returns
+    returns-2
+    returns-3
+    returns-4
+    returns-5
+    returns-6
+    returns-7
+    returns-8
+    returns-9
+    returns-10)
