@@ -81,13 +81,19 @@ pub enum Ink {
 fn lesser(a: f32, b: f32) -> f32
     ensures { λ r. ⌜ r ≡ lesserOf a b ⌝ }
 {
-    if b < a { b } else { a }
+    if b < a {
+        return b;
+    }
+    a
 }
 
 fn greater(a: f32, b: f32) -> f32
     ensures { λ r. ⌜ r ≡ greaterOf a b ⌝ }
 {
-    if a < b { b } else { a }
+    if a < b {
+        return b;
+    }
+    a
 }
 
 impl Reach {
@@ -115,13 +121,14 @@ impl Reach {
         Reach { x0, y0, x1, y1 }
     }
 
+    // `span` is the quickest floor, and the quickest ceiling: what is not taken of it is not compiled.
     pub fn whole(self) -> IntBbox
         ensures { λ r. ⌜ r ≡ wholeBox self ⌝ }
     {
-        let x0 = maths::floor_i32(self.x0);
-        let y0 = maths::floor_i32(self.y0);
-        let x1 = maths::ceil_i32(self.x1);
-        let y1 = maths::ceil_i32(self.y1);
+        let x0 = maths::span(self.x0)[0];
+        let y0 = maths::span(self.y0)[0];
+        let x1 = maths::span(self.x1)[1];
+        let y1 = maths::span(self.y1)[1];
         IntBbox { x0, y0, x1, y1 }
     }
 }
