@@ -8,9 +8,9 @@ ghost use mathlib.Core.List.{[], _∷_, flatten};
 ghost use Prim.Native.Nat.{_-_};
 ghost use lib.Ieee.{le};
 ghost use Rattle.laws.specs.Binary32.{_⊗_, dec};
-ghost use Rattle.drawing.specs.Sheet.{Drew};
+ghost use Rattle.drawing.specs.Page.{Drew};
 ghost use Rattle.curve.specs.Curve.{lineOf, linesOf, rangeOf, rangeEnd, part, frontOf, walk, isPoint, sideEvents, deviceSide, localSide, eulerEvents};
-use drawing::line::Drawn;
+use drawing::line::Ink;
 use drawing::line::no_count;
 use drawing::line::output_line_with_transform;
 use drawing::line::stopped;
@@ -39,7 +39,7 @@ struct Side {
 }
 
 // A line of a side, which runs back unless the offset is 0 or more.
-fn side_line(lines: &mut [u32], ink: Drawn, path: u32, side: Side, p: Vec2, q: Vec2) -> Drawn
+fn side_line(lines: &mut [u32], ink: Ink, path: u32, side: Side, p: Vec2, q: Vec2) -> Ink
     ensures { λ r. ⌜ Drew path (now (lines .entry)) ink (lineOf side p q ∷ []) (now (lines .exit)) r ⌝ }
 {
     let transform = side.transform;
@@ -52,14 +52,14 @@ fn side_line(lines: &mut [u32], ink: Drawn, path: u32, side: Side, p: Vec2, q: V
 // The n lines of a range: all but the last end along the spiral.
 fn range_lines(
     lines: &mut [u32],
-    ink: Drawn,
+    ink: Ink,
     path: u32,
     side: Side,
     fit: Fit,
     n: u32,
     at: Vec2,
     end: Vec2,
-) -> Drawn
+) -> Ink
     ensures { λ r. ⌜ Drew path (now (lines .entry)) ink (linesOf side fit (n - 1) 1 at end) (now (lines .exit)) r ⌝ }
 {
     let mut so = ink;
@@ -79,13 +79,13 @@ fn range_lines(
 
 fn draw_range(
     lines: &mut [u32],
-    ink: Drawn,
+    ink: Ink,
     path: u32,
     side: Side,
     fit: Fit,
     at: Vec2,
     end: Vec2,
-) -> Drawn
+) -> Ink
     ensures { λ r. ⌜ Drew path (now (lines .entry)) ink (rangeOf side fit at end) (now (lines .exit)) r ⌝ }
 {
     let n = fit.n;
@@ -117,7 +117,7 @@ fn accepts(err: f32, scale: f32, dt: f32) -> bool
 
 // The ranges of a side, from the tip where the first one starts. A range starts at t0_u * dt and is dt long, and dt does
 // not fall below 1/65536.
-fn walk_side(lines: &mut [u32], ink: Drawn, path: u32, side: Side, first: Tip) -> Drawn
+fn walk_side(lines: &mut [u32], ink: Ink, path: u32, side: Side, first: Tip) -> Ink
     ensures { λ r. ⌜ Drew path (now (lines .entry)) ink (flatten (walk side 16 0 (frontOf first (side .start)) .ranges)) (now (lines .exit)) r ⌝ }
 {
     let points = side.points;
@@ -166,7 +166,7 @@ fn is_point(points: [Vec2; 4]) -> bool
     false
 }
 
-fn draw_side(lines: &mut [u32], ink: Drawn, path: u32, side: Side) -> Drawn
+fn draw_side(lines: &mut [u32], ink: Ink, path: u32, side: Side) -> Ink
     ensures { λ r. ⌜ Drew path (now (lines .entry)) ink (sideEvents side) (now (lines .exit)) r ⌝ }
 {
     let points = side.points;
@@ -217,14 +217,14 @@ fn local_side(cubic: [Vec2; 4], transform: [f32; 6], offset: f32, start: Vec2, e
 // Offset 0 or -0 is drawn in device space.
 pub fn flatten_euler(
     lines: &mut [u32],
-    ink: Drawn,
+    ink: Ink,
     path: u32,
     cubic: [Vec2; 4],
     transform: [f32; 6],
     offset: f32,
     start: Vec2,
     end: Vec2,
-) -> Drawn
+) -> Ink
     ensures { λ r. ⌜ Drew path (now (lines .entry)) ink (eulerEvents cubic transform offset start end) (now (lines .exit)) r ⌝ }
 {
     if offset == 0.0 {

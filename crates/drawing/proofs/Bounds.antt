@@ -14,7 +14,7 @@ kept : (z : ℤ) → SFits w32 z → toZ w32 (ofZ w32 z) ≡ z
 kept z h = toZ-ofZ w32 z h
 
 -- an i32 that a callee returned
-back : (z : ℤ) → mag z < 2147483648 → toZ w32 (ofZ w32 z) ≡ z
+pub back : (z : ℤ) → mag z < 2147483648 → toZ w32 (ofZ w32 z) ≡ z
 back z h = kept z (record { sfits = h })
 
 picked : {A : Type 0} (t : Bool) (a b : A) → t ≡ true → a ≡ cond t a b
@@ -42,10 +42,6 @@ module _ (a b : ℤ) (fa : SFits w32 a) (fb : SFits w32 b) where
   pub leave-high : ltZ (toZ w32 (ofZ w32 b)) (toZ w32 (ofZ w32 a)) ≡ false → toZ w32 (ofZ w32 b) ≡ higherOf b a
   unfolding higherOf
   leave-high h = kept b fb ∙ left (ltZ b a) a b (plain false h)
-
--- a bound of a box, and a rounded coordinate
-pub bound : {r a f g : ℤ} (pick : ℤ → ℤ → ℤ) → mag r < 2147483648 → mag a < 2147483648 → mag f < 2147483648 → r ≡ pick (toZ w32 (ofZ w32 a)) (toZ w32 (ofZ w32 f)) → f ≡ g → toZ w32 (ofZ w32 r) ≡ pick a g
-bound {r} {a} {f} pick ok ok₁ ok₂ e h = back r ok ∙ e ∙ ap (λ (z : ℤ). pick z (toZ w32 (ofZ w32 f))) (back a ok₁) ∙ ap (pick a) (back f ok₂ ∙ h)
 
 pub boxed : {a b c d a' b' c' d' : ℤ} → a ≡ a' → b ≡ b' → c ≡ c' → d ≡ d' → _≡_ {A = IntBbox} (record { x0 = a; y0 = b; x1 = c; y1 = d }) (record { x0 = a'; y0 = b'; x1 = c'; y1 = d' })
 boxed h i j k = cc

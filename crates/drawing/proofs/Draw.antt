@@ -1,4 +1,4 @@
--- What the proofs of the leaves cite: what a match found, the six words, one event at the pen. Assumes nothing.
+-- What the proofs of the leaves cite: what a match found, the six words, one event at the nib. Assumes nothing.
 use Prim.Native.Nat.{ℕ, suc, _+_, _*_, _/_, _<_, _≤_}
 use mathlib.Core.Path.{_≡_, refl}
 use mathlib.Core.Bool.{Bool, true, false, _&&_}
@@ -16,24 +16,25 @@ use Rattle.refusals.specs.declared.LineEnd.the-variants.{Start, End}
 use Rattle.refusals.specs.declared.Refusal.the-variants.{NotNumber, NoRoom, NoJoin, NoCount}
 use Rattle.spiral.specs.declared.util.Vec2.{Vec2}
 use Rattle.spiral.specs.Util.{hasNan}
-use Rattle.drawing.specs.Sheet.{boxWith, line, noCount, noJoin, recordOf, hasRoom, stored, drawOn, draw, drawAll, isStopped, Drew}
-use Rattle.drawing.specs.SheetLaws.{drew}
-use Rattle.drawing.specs.declared.line.IntBbox.{IntBbox}
-use Rattle.drawing.specs.declared.line.Pen.{Pen}
-use Rattle.drawing.specs.declared.line.Drawn.{Drawn}
-use Rattle.drawing.specs.declared.line.Drawn.the-variants.{On, Stopped}
-use Rattle.drawing.proofs.line.Drawn.{the-type}
+use Rattle.drawing.specs.Sheet.{line, noCount, noJoin, recordOf, hasRoom}
+use Rattle.drawing.specs.Page.{reachWith, inked, inkOn, inkEvent, inkAll, hasStopped, Drew}
+use Rattle.drawing.specs.PageLaws.{drew}
+use Rattle.drawing.specs.declared.line.Reach.{Reach}
+use Rattle.drawing.specs.declared.line.Nib.{Nib}
+use Rattle.drawing.specs.declared.line.Ink.{Ink}
+use Rattle.drawing.specs.declared.line.Ink.the-variants.{Flows, Stops}
+use Rattle.drawing.proofs.line.Ink.{the-type}
 
 -- what a `match` found
-pub is-on : (d : Drawn) → OneOf (0 ∷ []) (tagOf the-type d) → isStopped d ≡ false
-unfolding isStopped
-is-on (On pen) k = refl
-is-on (Stopped why n) k = absurd (omega arith)
+pub is-on : (d : Ink) → OneOf (0 ∷ []) (tagOf the-type d) → hasStopped d ≡ false
+unfolding hasStopped
+is-on (Flows nib) k = refl
+is-on (Stops why n) k = absurd (omega arith)
 
-pub other-than-on : (d : Drawn) → OneOf (1 ∷ []) (tagOf the-type d) → isStopped d ≡ true
-unfolding isStopped
-other-than-on (On pen) k = absurd (omega arith)
-other-than-on (Stopped why n) k = refl
+pub other-than-on : (d : Ink) → OneOf (1 ∷ []) (tagOf the-type d) → hasStopped d ≡ true
+unfolding hasStopped
+other-than-on (Flows nib) k = absurd (omega arith)
+other-than-on (Stops why n) k = refl
 
 -- ---- the six words of a line, stored one after another
 next : (n k : ℕ) → n + suc k ≡ suc (n + k)
@@ -59,28 +60,28 @@ pub room : (ws : List ℕ) (n : ℕ) → n < 4294967295 → n < length ws / 6 �
 unfolding hasRoom
 room ws n h k = rw (lt-ltb n 4294967295 h, lt-ltb n (length ws / 6) k)
 
-module _ {path : ℕ} {ws : List ℕ} {ink : Drawn} {pen : Pen} {p q : Vec2} (on : ink ≡ On pen) where
-  pub nan-first : hasNan p ≡ true → Drew path ws ink (line p q ∷ []) ws (Stopped (NotNumber Start) (pen .count))
-  unfolding drawAll draw drawOn stored
+module _ {path : ℕ} {ws : List ℕ} {ink : Ink} {nib : Nib} {p q : Vec2} (on : ink ≡ Flows nib) where
+  pub nan-first : hasNan p ≡ true → Drew path ws ink (line p q ∷ []) ws (Stops (NotNumber Start) (nib .count))
+  unfolding inkAll inkEvent inkOn inked
   nan-first h = drew (rw (on, h))
 
-  pub nan-second : hasNan p ≡ false → hasNan q ≡ true → Drew path ws ink (line p q ∷ []) ws (Stopped (NotNumber End) (pen .count))
-  unfolding drawAll draw drawOn stored
+  pub nan-second : hasNan p ≡ false → hasNan q ≡ true → Drew path ws ink (line p q ∷ []) ws (Stops (NotNumber End) (nib .count))
+  unfolding inkAll inkEvent inkOn inked
   nan-second h i = drew (rw (on, h, i))
 
-  pub full : hasNan p ≡ false → hasNan q ≡ false → hasRoom ws (pen .count) ≡ false → Drew path ws ink (line p q ∷ []) ws (Stopped NoRoom (pen .count))
-  unfolding drawAll draw drawOn stored
+  pub full : hasNan p ≡ false → hasNan q ≡ false → hasRoom ws (nib .count) ≡ false → Drew path ws ink (line p q ∷ []) ws (Stops NoRoom (nib .count))
+  unfolding inkAll inkEvent inkOn inked
   full h i k = drew (rw (on, h, i, k))
 
-  pub goes-on : {ws' : List ℕ} {b : IntBbox} → hasNan p ≡ false → hasNan q ≡ false → hasRoom ws (pen .count) ≡ true → ws' ≡ sets ws (pen .count * 6) (recordOf path (pen .tag) p q) → b ≡ boxWith (boxWith (pen .bbox) p) q → Drew path ws ink (line p q ∷ []) ws' (On (record { count = pen .count + 1; tag = pen .tag; bbox = b }))
-  unfolding drawAll draw drawOn stored
+  pub goes-on : {ws' : List ℕ} {b : Reach} → hasNan p ≡ false → hasNan q ≡ false → hasRoom ws (nib .count) ≡ true → ws' ≡ sets ws (nib .count * 6) (recordOf path (nib .tag) p q) → b ≡ reachWith (reachWith (nib .reach) p) q → Drew path ws ink (line p q ∷ []) ws' (Flows (record { count = nib .count + 1; tag = nib .tag; reach = b }))
+  unfolding inkAll inkEvent inkOn inked
   goes-on h i k w e = drew (rw (on, h, i, k, w, e))
 
-module _ (path : ℕ) (ws : List ℕ) {ink : Drawn} {pen : Pen} (on : ink ≡ On pen) where
-  pub count-stops : Drew path ws ink (noCount ∷ []) ws (Stopped NoCount (pen .count))
-  unfolding drawAll draw drawOn
+module _ (path : ℕ) (ws : List ℕ) {ink : Ink} {nib : Nib} (on : ink ≡ Flows nib) where
+  pub count-stops : Drew path ws ink (noCount ∷ []) ws (Stops NoCount (nib .count))
+  unfolding inkAll inkEvent inkOn
   count-stops = drew (rw on)
 
-  pub join-stops : Drew path ws ink (noJoin ∷ []) ws (Stopped NoJoin (pen .count))
-  unfolding drawAll draw drawOn
+  pub join-stops : Drew path ws ink (noJoin ∷ []) ws (Stops NoJoin (nib .count))
+  unfolding inkAll inkEvent inkOn
   join-stops = drew (rw on)

@@ -9,21 +9,24 @@ use Rattle.laws.specs.Only.{Only, determined}
 use Rattle.spiral.specs.declared.util.Vec2.{Vec2}
 use Rattle.drawing.specs.declared.line.IntBbox.{IntBbox}
 use Rattle.drawing.specs.declared.line.Drawn.{Drawn}
+use Rattle.drawing.specs.declared.line.Reach.{Reach}
+use Rattle.drawing.specs.declared.line.Ink.{Ink}
 use Rattle.drawing.specs.declared.cubic.CubicAt.{CubicAt}
-use Rattle.drawing.specs.Sheet.{Event, line, noCount, noJoin, lineThrough, Sheet, lowerOf, higherOf, emptyBox, boxWith, isStopped, Drew}
-use Rattle.drawing.specs.SheetLaws.{exact}
+use Rattle.drawing.specs.Sheet.{Event, line, noCount, noJoin, lineThrough, lowerOf, higherOf, emptyBox}
+use Rattle.drawing.specs.Page.{Page, emptyReach, reachWith, wholeBox, driedOf, hasStopped, Drew}
+use Rattle.drawing.specs.PageLaws.{exact}
 use Rattle.drawing.specs.Arc.{arcOf}
 use Rattle.drawing.specs.Cap.{capEvents}
 use Rattle.drawing.specs.Join.{joinEvents}
 use Rattle.drawing.specs.Cubic.{cubicAt, startTangent, endTangent}
 
 -- every function that draws into the lent words
-pub drew-only : (path : ℕ) (ws : List ℕ) (d : Drawn) (es : List Event) → Only (λ (s : Sheet). Drew path ws d es (s .words) (s .drawn))
+pub drew-only : (path : ℕ) (ws : List ℕ) (d : Ink) (es : List Event) → Only (λ (s : Page). Drew path ws d es (s .words) (s .ink))
 drew-only path ws d es r s h k = exact h ∙ sym (exact k)
 
-module _ (path : ℕ) (ws : List ℕ) (d : Drawn) where
-  abbrev Draws : List Event → Sheet → Type 0
-  Draws es s = Drew path ws d es (s .words) (s .drawn)
+module _ (path : ℕ) (ws : List ℕ) (d : Ink) where
+  abbrev Draws : List Event → Page → Type 0
+  Draws es s = Drew path ws d es (s .words) (s .ink)
 
   pub write-line-only : (p q : Vec2) → Only (Draws (line p q ∷ []))
   write-line-only p q = drew-only path ws d (line p q ∷ [])
@@ -44,17 +47,17 @@ module _ (path : ℕ) (ws : List ℕ) (d : Drawn) where
   draw-join-only flags z p tp tn np nn = drew-only path ws d (joinEvents flags z p tp tn np nn)
 
 -- the two that stop without them
-stop-only : (d : Drawn) (es : List Event) → Only (λ (r : Drawn). (path : ℕ) (ws : List ℕ) → Drew path ws d es ws r)
-stop-only d es r s h k = ap (λ (t : Sheet). t .drawn) (exact (h 0 []) ∙ sym (exact (k 0 [])))
+stop-only : (d : Ink) (es : List Event) → Only (λ (r : Ink). (path : ℕ) (ws : List ℕ) → Drew path ws d es ws r)
+stop-only d es r s h k = ap (λ (t : Page). t .ink) (exact (h 0 []) ∙ sym (exact (k 0 [])))
 
-pub no-count-only : (d : Drawn) → Only (λ (r : Drawn). (path : ℕ) (ws : List ℕ) → Drew path ws d (noCount ∷ []) ws r)
+pub no-count-only : (d : Ink) → Only (λ (r : Ink). (path : ℕ) (ws : List ℕ) → Drew path ws d (noCount ∷ []) ws r)
 no-count-only d = stop-only d (noCount ∷ [])
 
-pub no-join-only : (d : Drawn) → Only (λ (r : Drawn). (path : ℕ) (ws : List ℕ) → Drew path ws d (noJoin ∷ []) ws r)
+pub no-join-only : (d : Ink) → Only (λ (r : Ink). (path : ℕ) (ws : List ℕ) → Drew path ws d (noJoin ∷ []) ws r)
 no-join-only d = stop-only d (noJoin ∷ [])
 
-pub stopped-only : (d : Drawn) → Only (λ (r : Bool). r ≡ isStopped d)
-stopped-only d = determined (isStopped d)
+pub stopped-only : (d : Ink) → Only (λ (r : Bool). r ≡ hasStopped d)
+stopped-only d = determined (hasStopped d)
 
 pub lower-only : (a b : ℤ) → Only (λ (r : ℤ). r ≡ lowerOf a b)
 lower-only a b = determined (lowerOf a b)
@@ -65,8 +68,17 @@ higher-only a b = determined (higherOf a b)
 pub empty-only : Only (λ (r : IntBbox). r ≡ emptyBox)
 empty-only = determined emptyBox
 
-pub add-pt-only : (b : IntBbox) (p : Vec2) → Only (λ (r : IntBbox). r ≡ boxWith b p)
-add-pt-only b p = determined (boxWith b p)
+pub reach-empty-only : Only (λ (r : Reach). r ≡ emptyReach)
+reach-empty-only = determined emptyReach
+
+pub add-pt-only : (b : Reach) (p : Vec2) → Only (λ (r : Reach). r ≡ reachWith b p)
+add-pt-only b p = determined (reachWith b p)
+
+pub whole-only : (b : Reach) → Only (λ (r : IntBbox). r ≡ wholeBox b)
+whole-only b = determined (wholeBox b)
+
+pub dried-only : (d : Ink) → Only (λ (r : Drawn). r ≡ driedOf d)
+dried-only d = determined (driedOf d)
 
 pub eval-cubic-and-deriv-only : (ps : List Vec2) (t : Float) → Only (λ (r : CubicAt). r ≡ cubicAt ps t)
 eval-cubic-and-deriv-only ps t = determined (cubicAt ps t)

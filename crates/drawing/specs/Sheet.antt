@@ -1,6 +1,5 @@
 -- What is drawn is a list of events, in the source's order; how events are stored is one fold over the sheet, `drawAll`. Definitions only.
 use Prim.Native.Nat.{ℕ, _+_}
-use mathlib.Core.Path.{_≡_}
 use mathlib.Core.Bool.{Bool, true, false, _&&_, cond}
 use mathlib.Core.List.{List, [], _∷_}
 use lib.Seq.{sets}
@@ -10,7 +9,6 @@ use lib.Signed.{ltZ}
 use lib.Ieee.{Float, binary32, toBits, toSigned}
 use Rattle.maths.specs.Numbers.{floorOf, ceilOf}
 use Rattle.records.specs.Record.{recordWords, placeOf, count as recordCount}
-use Rattle.refusals.specs.Refusals.{numberOf, endOf}
 use Rattle.refusals.specs.declared.Refusal.{Refusal}
 use Rattle.refusals.specs.declared.LineEnd.the-variants.{Start, End}
 use Rattle.refusals.specs.declared.Refusal.the-variants.{NotNumber, NoRoom, NoJoin, NoCount}
@@ -107,23 +105,3 @@ countOf (Stopped why n) = n
 unfoldable pub isStopped : Drawn → Bool
 isStopped (On pen) = false
 isStopped (Stopped why n) = true
-
--- in numbers: 0 or the refusal's, the end that is no number, the lines stored, the tag and the box of an answer that is no refusal, and the lent words
-pub record Told : Type 0 where
-  pub number : ℕ
-  pub end : ℕ
-  pub count : ℕ
-  pub tag : ℕ
-  pub box : List IntBbox
-  pub words : List ℕ
-
-unfoldable pub told : List ℕ → Drawn → Told
-told ws (On pen) = record { number = 0; end = 0; count = pen .count; tag = pen .tag; box = pen .bbox ∷ []; words = ws }
-told ws (Stopped why n) = record { number = numberOf why; end = endOf why; count = n; tag = 0; box = []; words = ws }
-
-abbrev pub toldOf : Sheet → Told
-toldOf s = told (s .words) (s .drawn)
-
--- ---- the contract of every function that draws: on a path, with the words and the answer before, the events leave the words and the answer after
-pub record Drew (path : ℕ) (before : List ℕ) (ink : Drawn) (es : List Event) (after : List ℕ) (r : Drawn) : Type 0 where
-  pub is : told after r ≡ toldOf (drawAll path (sheet before ink) es)

@@ -1,8 +1,8 @@
 // Arcs, as chords of a fixed turn.
 ghost use mathlib.Core.Path.{_≡_};
-ghost use Rattle.drawing.specs.Sheet.{Drew};
+ghost use Rattle.drawing.specs.Page.{Drew};
 ghost use Rattle.drawing.specs.Arc.{arcRadius, arcStep, arcCount, arcTurn, chords, arcOf};
-use crate::line::Drawn;
+use crate::line::Ink;
 use crate::line::stopped;
 use crate::line::write_line;
 use spiral::util::Vec2;
@@ -43,7 +43,7 @@ fn arc_turn(theta: f32) -> [f32; 6]
 // From the device point p0: chords to where the arm r turns about the center, and one to the given end.
 fn draw_chords(
     lines: &mut [u32],
-    ink: Drawn,
+    ink: Ink,
     path: u32,
     p0: Vec2,
     r: Vec2,
@@ -52,7 +52,7 @@ fn draw_chords(
     rot: [f32; 6],
     transform: [f32; 6],
     turns: u32,
-) -> Drawn
+) -> Ink
     ensures { λ d. ⌜ Drew path (now (lines .entry)) ink (chords turns rot transform center end p0 r) (now (lines .exit)) d ⌝ }
 {
     let mut at = p0;
@@ -74,14 +74,14 @@ fn draw_chords(
 
 pub fn flatten_arc(
     lines: &mut [u32],
-    ink: Drawn,
+    ink: Ink,
     path: u32,
     begin: Vec2,
     end: Vec2,
     center: Vec2,
     angle: f32,
     transform: [f32; 6],
-) -> Drawn
+) -> Ink
     ensures { λ r. ⌜ Drew path (now (lines .entry)) ink (arcOf transform begin end center angle) (now (lines .exit)) r ⌝ }
 {
     let theta = arc_step(arc_radius(begin, center, transform));

@@ -1,8 +1,8 @@
 // The caps of an open stroke.
-ghost use Rattle.drawing.specs.Sheet.{Drew};
+ghost use Rattle.drawing.specs.Page.{Drew};
 ghost use Rattle.drawing.specs.Cap.{squareCap, capEvents};
 use crate::arc::flatten_arc;
-use crate::line::Drawn;
+use crate::line::Ink;
 use crate::line::output_line_with_transform;
 use spiral::util::Vec2;
 
@@ -14,13 +14,13 @@ const PI: f32 = 3.1415927;
 
 fn square_cap(
     lines: &mut [u32],
-    ink: Drawn,
+    ink: Ink,
     path: u32,
     cap0: Vec2,
     cap1: Vec2,
     offset_tangent: Vec2,
     transform: [f32; 6],
-) -> Drawn
+) -> Ink
     ensures { λ r. ⌜ Drew path (now (lines .entry)) ink (squareCap transform cap0 cap1 «offset_tangent») (now (lines .exit)) r ⌝ }
 {
     let p0 = cap0.add(offset_tangent);
@@ -33,7 +33,7 @@ fn square_cap(
 // The style has its two bits where an end cap has them.
 pub fn draw_cap(
     lines: &mut [u32],
-    ink: Drawn,
+    ink: Ink,
     path: u32,
     cap_style: u32,
     point: Vec2,
@@ -41,7 +41,7 @@ pub fn draw_cap(
     cap1: Vec2,
     offset_tangent: Vec2,
     transform: [f32; 6],
-) -> Drawn
+) -> Ink
     ensures { λ r. ⌜ Drew path (now (lines .entry)) ink (capEvents «cap_style» transform point cap0 cap1 «offset_tangent») (now (lines .exit)) r ⌝ }
 {
     if cap_style == CAP_ROUND {

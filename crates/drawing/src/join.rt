@@ -1,9 +1,9 @@
 // The joins between the segments of a stroke.
 ghost use mathlib.Core.Path.{_≡_};
-ghost use Rattle.drawing.specs.Sheet.{Drew};
+ghost use Rattle.drawing.specs.Page.{Drew};
 ghost use Rattle.drawing.specs.Join.{cross, cornersOf, bothSides, bevelEvents, inLimit, miterPoint, miterEvents, roundEvents, joinEvents};
 use crate::arc::flatten_arc;
-use crate::line::Drawn;
+use crate::line::Ink;
 use crate::line::no_join;
 use crate::line::output_line_with_transform;
 use crate::line::output_two_lines_with_transform;
@@ -56,7 +56,7 @@ fn corners_of(p0: Vec2, n_prev: Vec2, n_next: Vec2) -> Corners
 }
 
 // The front, then the back.
-fn draw_sides(lines: &mut [u32], ink: Drawn, path: u32, k: Corners, transform: [f32; 6]) -> Drawn
+fn draw_sides(lines: &mut [u32], ink: Ink, path: u32, k: Corners, transform: [f32; 6]) -> Ink
     ensures { λ r. ⌜ Drew path (now (lines .entry)) ink (bothSides transform k) (now (lines .exit)) r ⌝ }
 {
     output_two_lines_with_transform(
@@ -71,7 +71,7 @@ fn draw_sides(lines: &mut [u32], ink: Drawn, path: u32, k: Corners, transform: [
     )
 }
 
-fn bevel_join(lines: &mut [u32], ink: Drawn, path: u32, k: Corners, transform: [f32; 6]) -> Drawn
+fn bevel_join(lines: &mut [u32], ink: Ink, path: u32, k: Corners, transform: [f32; 6]) -> Ink
     ensures { λ r. ⌜ Drew path (now (lines .entry)) ink (bevelEvents transform k) (now (lines .exit)) r ⌝ }
 {
     if k.front0.eq(k.front1) {
@@ -102,13 +102,13 @@ fn miter_point(b: Bend, last: Vec2, this: Vec2) -> Vec2
 
 fn miter_join(
     lines: &mut [u32],
-    ink: Drawn,
+    ink: Ink,
     path: u32,
     k: Corners,
     b: Bend,
     limit: f32,
     transform: [f32; 6],
-) -> Drawn
+) -> Ink
     ensures { λ r. ⌜ Drew path (now (lines .entry)) ink (miterEvents transform k b limit) (now (lines .exit)) r ⌝ }
 {
     let mut rest = k;
@@ -129,13 +129,13 @@ fn miter_join(
 
 fn round_join(
     lines: &mut [u32],
-    ink: Drawn,
+    ink: Ink,
     path: u32,
     k: Corners,
     b: Bend,
     p0: Vec2,
     transform: [f32; 6],
-) -> Drawn
+) -> Ink
     ensures { λ r. ⌜ Drew path (now (lines .entry)) ink (roundEvents transform k b p0) (now (lines .exit)) r ⌝ }
 {
     let angle = maths::abs(maths::atan2(b.cr, b.d));
@@ -149,7 +149,7 @@ fn round_join(
 
 pub fn draw_join(
     lines: &mut [u32],
-    ink: Drawn,
+    ink: Ink,
     path: u32,
     style_flags: u32,
     p0: Vec2,
@@ -158,7 +158,7 @@ pub fn draw_join(
     n_prev: Vec2,
     n_next: Vec2,
     transform: [f32; 6],
-) -> Drawn
+) -> Ink
     ensures { λ r. ⌜ Drew path (now (lines .entry)) ink (joinEvents «style_flags» transform p0 «tan_prev» «tan_next» «n_prev» «n_next») (now (lines .exit)) r ⌝ }
 {
     let k = corners_of(p0, n_prev, n_next);

@@ -1,7 +1,7 @@
 // One tag.
 ghost use mathlib.Core.Path.{_≡_};
 ghost use Prim.Native.Nat.{_+_, _-_, _%_, _^_, _<_};
-ghost use Rattle.drawing.specs.Sheet.{sheet};
+ghost use Rattle.drawing.specs.Sheet.{sheet, emptyBox};
 ghost use Rattle.drawing.specs.declared.line.Drawn.the-variants.{Stopped};
 ghost use Rattle.flatten.specs.Tag.{eventsAt};
 ghost use Rattle.flatten.specs.Step.{tagWord, drawnOf, changeOf, turnOf, refusedAt, stepped, stepOf};
@@ -15,14 +15,18 @@ use crate::tag::ShapeRead;
 use crate::tag::read_head;
 use crate::tag::read_shape;
 use drawing::line::Drawn;
+use drawing::line::Ink;
 use drawing::line::IntBbox;
+use drawing::line::Nib;
 use drawing::line::Pen;
+use drawing::line::Reach;
 use refusals::Refusal;
 use scene::reading::all_finite;
 use scene::reading::read_path_segment;
 use scene::reading::read_transform;
 use segment::draw_shape;
 
+// Each tag starts a box of its own: that of the last one is merged.
 fn draw_tag(
     layout: Layout,
     scene: &[u32],
@@ -32,19 +36,18 @@ fn draw_tag(
     head: Head,
     word: u32,
     count: u32,
-    bbox: IntBbox,
 ) -> Drawn
     ensures { λ r. ⌜ sheet (now (lines .exit)) r
-        ≡ drawnOf (head .tag .monoid .«path_ix») (record { count = count; tag = word; bbox = bbox }) (now (lines .entry)) (eventsAt layout (now (scene .entry)) (now (prefixes .entry)) ix head) ⌝ }
+        ≡ drawnOf (head .tag .monoid .«path_ix») (record { count = count; tag = word; bbox = emptyBox }) (now (lines .entry)) (eventsAt layout (now (scene .entry)) (now (prefixes .entry)) ix head) ⌝ }
 {
-    let pen = Pen {
-        count,
-        tag: word,
-        bbox,
-    };
     let tag = head.tag;
     if tag.tag_byte % 4 == 0 {
-        return Drawn::On(pen);
+        let bbox = IntBbox::empty();
+        return Drawn::On(Pen {
+            count,
+            tag: word,
+            bbox,
+        });
     }
     let is_stroke = head.flags / 0x8000_0000 % 2 == 1;
     let transform = read_transform(scene, layout.transform_base, tag.monoid.trans_ix);
@@ -59,8 +62,14 @@ fn draw_tag(
                 let path = tag.monoid.path_ix;
                 return match read_shape(layout, scene, prefixes, ix, head) {
                     ShapeRead::Found(shape) => {
-                        let ink = Drawn::On(pen);
-                        draw_shape(lines, ink, path, head.flags, points, z, shape)
+                        let reach = Reach::empty();
+                        let ink = Ink::Flows(Nib {
+                            count,
+                            tag: word,
+                            reach,
+                        });
+                        let drawn = draw_shape(lines, ink, path, head.flags, points, z, shape);
+                        drawn.dried()
                     }
                     ShapeRead::Refused(why) => Drawn::Stopped(why, count),
                 };
@@ -174,20 +183,8 @@ pub fn step(
 {
     match read_head(layout, scene, prefixes, n_boxes, t.tag) {
         HeadRead::Found(head) => {
-            // Each tag starts a box of its own: that of the last one is merged.
-            let own = IntBbox::empty();
             let word = tag_word(t.tag);
-            let drawn = draw_tag(
-                layout,
-                scene,
-                prefixes,
-                lines,
-                t.tag,
-                head,
-                word,
-                t.count,
-                own,
-            );
+            let drawn = draw_tag(layout, scene, prefixes, lines, t.tag, head, word, t.count);
             turn_of(t, head, drawn)
         }
         HeadRead::Refused(why) => refused_at(t, why),

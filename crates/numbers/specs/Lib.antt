@@ -5,6 +5,7 @@ pub mod Order
 pub mod SelectLaws
 pub mod Whole
 pub mod WholeLaws
+pub mod Rising
 pub mod CountLaws
 pub mod Only
 pub mod Examples

@@ -92,6 +92,14 @@ not-lt→le x y h k n = go (lt x y) (lt y x) (eq x y) (eq y x) (ordered x y h k)
     go false true false false more n = tt
     go false false true true alike n = tt
 
+pub lt-once : (x y : Float) → T (not (isNan x)) → T (not (isNan y)) → lt x y ≡ true → lt y x ≡ false
+lt-once x y h k e = go (lt x y) (lt y x) (eq x y) (eq y x) (ordered x y h k) e
+  where
+    go : (a b c d : Bool) → Ordered a b c d → a ≡ true → b ≡ false
+    go true false false false less e = refl
+    go false true false false more e = sym e
+    go false false true true alike e = refl
+
 -- ---- equal and of one sign
 zeros : (f : Format) (x y : Float) → T (fits f x) → T (fits f y) → T (isZero x) → T (isZero y) → signOf x ≡ signOf y → x ≡ y
 unfolding signOf

@@ -38,7 +38,7 @@ fn is_told(line: &[u8; 351], r: Drawn) -> bool {
 fn is_drawn(lines: &mut [u32], line: &[u8; 351]) -> bool {
     lists::fill(lines, lists::LENT);
     let r = draw(lines, line);
-    is_told(line, r) & (lists::hash(lines) == word(line, 30))
+    is_told(line, r.dried()) & (lists::hash(lines) == word(line, 30))
 }
 
 fn is_right(lines: &mut [u32], line: &[u8; 351]) -> bool {

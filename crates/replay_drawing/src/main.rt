@@ -6,9 +6,9 @@ use curve::flatten_euler;
 use drawing::arc::flatten_arc;
 use drawing::cap::draw_cap;
 use drawing::join::draw_join;
-use drawing::line::Drawn;
-use drawing::line::IntBbox;
-use drawing::line::Pen;
+use drawing::line::Ink;
+use drawing::line::Nib;
+use drawing::line::Reach;
 use lists::word;
 use spiral::util::Vec2;
 
@@ -47,7 +47,7 @@ fn points(line: &[u8; 351]) -> [Vec2; 6] {
     ]
 }
 
-fn arc(lines: &mut [u32], ink: Drawn, line: &[u8; 351]) -> Drawn {
+fn arc(lines: &mut [u32], ink: Ink, line: &[u8; 351]) -> Ink {
     let points = points(line);
     let begin = points[0];
     let end = points[1];
@@ -65,7 +65,7 @@ fn arc(lines: &mut [u32], ink: Drawn, line: &[u8; 351]) -> Drawn {
     )
 }
 
-fn cap(lines: &mut [u32], ink: Drawn, line: &[u8; 351]) -> Drawn {
+fn cap(lines: &mut [u32], ink: Ink, line: &[u8; 351]) -> Ink {
     let points = points(line);
     let at = points[0];
     let cap0 = points[1];
@@ -85,7 +85,7 @@ fn cap(lines: &mut [u32], ink: Drawn, line: &[u8; 351]) -> Drawn {
     )
 }
 
-fn join(lines: &mut [u32], ink: Drawn, line: &[u8; 351]) -> Drawn {
+fn join(lines: &mut [u32], ink: Ink, line: &[u8; 351]) -> Ink {
     let points = points(line);
     let p0 = points[0];
     let tan_prev = points[1];
@@ -108,7 +108,7 @@ fn join(lines: &mut [u32], ink: Drawn, line: &[u8; 351]) -> Drawn {
     )
 }
 
-fn euler(lines: &mut [u32], ink: Drawn, line: &[u8; 351]) -> Drawn {
+fn euler(lines: &mut [u32], ink: Ink, line: &[u8; 351]) -> Ink {
     let points = points(line);
     let cubic = [points[0], points[1], points[2], points[3]];
     let start = points[4];
@@ -127,12 +127,12 @@ fn euler(lines: &mut [u32], ink: Drawn, line: &[u8; 351]) -> Drawn {
 }
 
 // Draws behind as many lines as the vector says. The Rust tells no tag: 0 stands for it.
-fn draw(lines: &mut [u32], line: &[u8; 351]) -> Drawn {
-    let bbox = IntBbox::empty();
-    let ink = Drawn::On(Pen {
+fn draw(lines: &mut [u32], line: &[u8; 351]) -> Ink {
+    let reach = Reach::empty();
+    let ink = Ink::Flows(Nib {
         count: word(line, 2),
         tag: 0,
-        bbox,
+        reach,
     });
     match word(line, 0) {
         1 => arc(lines, ink, line),

@@ -1,13 +1,13 @@
 // What a segment draws: a fill, a stroke, or the cap where a stroke starts.
 ghost use mathlib.Core.Path.{_≡_};
-ghost use Rattle.drawing.specs.Sheet.{Drew};
+ghost use Rattle.drawing.specs.Page.{Drew};
 ghost use Rattle.segment.specs.Segment.{quarter, steadyOf, neighborOf, tangentsOf, edgesOf, sidesEvents, endEvents, strokeEvents, startCapEvents, fillEvents, shapeEvents};
 use curve::flatten_euler;
 use drawing::cap::draw_cap;
 use drawing::cubic::cubic_end_tangent;
 use drawing::cubic::cubic_start_tangent;
 use drawing::join::draw_join;
-use drawing::line::Drawn;
+use drawing::line::Ink;
 use spiral::euler::TANGENT_THRESH;
 use spiral::util::Vec2;
 
@@ -105,13 +105,13 @@ fn edges_of(t: Tangents, offset: f32) -> Edges
 // The side at the offset, then the one across.
 fn draw_sides(
     lines: &mut [u32],
-    ink: Drawn,
+    ink: Ink,
     path: u32,
     cubic: [Vec2; 4],
     transform: [f32; 6],
     offset: f32,
     e: Edges,
-) -> Drawn
+) -> Ink
     ensures { λ r. ⌜ Drew path (now (lines .entry)) ink (sidesEvents transform cubic offset e) (now (lines .exit)) r ⌝ }
 {
     let p0 = cubic[0];
@@ -136,7 +136,7 @@ fn draw_sides(
 // The join to the next segment, or the cap where the stroke ends.
 fn draw_end(
     lines: &mut [u32],
-    ink: Drawn,
+    ink: Ink,
     path: u32,
     flags: u32,
     transform: [f32; 6],
@@ -144,7 +144,7 @@ fn draw_end(
     do_join: bool,
     t: Tangents,
     e: Edges,
-) -> Drawn
+) -> Ink
     ensures { λ r. ⌜ Drew path (now (lines .entry)) ink (endEvents «do_join» flags transform p3 t e) (now (lines .exit)) r ⌝ }
 {
     if do_join {
@@ -176,14 +176,14 @@ fn draw_end(
 
 fn stroke(
     lines: &mut [u32],
-    ink: Drawn,
+    ink: Ink,
     path: u32,
     flags: u32,
     cubic: [Vec2; 4],
     transform: [f32; 6],
     width: f32,
     neighbor: Neighbor,
-) -> Drawn
+) -> Ink
     ensures { λ r. ⌜ Drew path (now (lines .entry)) ink (strokeEvents flags transform cubic width neighbor) (now (lines .exit)) r ⌝ }
 {
     let offset = 0.5 * width;
@@ -204,7 +204,7 @@ fn stroke(
 }
 
 // The curve alone: a subpath that the data leave open is not closed.
-fn fill(lines: &mut [u32], ink: Drawn, path: u32, cubic: [Vec2; 4], transform: [f32; 6]) -> Drawn
+fn fill(lines: &mut [u32], ink: Ink, path: u32, cubic: [Vec2; 4], transform: [f32; 6]) -> Ink
     ensures { λ r. ⌜ Drew path (now (lines .entry)) ink (fillEvents transform cubic) (now (lines .exit)) r ⌝ }
 {
     flatten_euler(lines, ink, path, cubic, transform, 0.0, cubic[0], cubic[3])
@@ -212,13 +212,13 @@ fn fill(lines: &mut [u32], ink: Drawn, path: u32, cubic: [Vec2; 4], transform: [
 
 fn start_cap(
     lines: &mut [u32],
-    ink: Drawn,
+    ink: Ink,
     path: u32,
     flags: u32,
     cubic: [Vec2; 4],
     transform: [f32; 6],
     width: f32,
-) -> Drawn
+) -> Ink
     ensures { λ r. ⌜ Drew path (now (lines .entry)) ink (startCapEvents flags transform cubic width) (now (lines .exit)) r ⌝ }
 {
     let p0 = cubic[0];
@@ -240,13 +240,13 @@ fn start_cap(
 
 pub fn draw_shape(
     lines: &mut [u32],
-    ink: Drawn,
+    ink: Ink,
     path: u32,
     flags: u32,
     cubic: [Vec2; 4],
     transform: [f32; 6],
     shape: Shape,
-) -> Drawn
+) -> Ink
     ensures { λ r. ⌜ Drew path (now (lines .entry)) ink (shapeEvents shape flags transform cubic) (now (lines .exit)) r ⌝ }
 {
     match shape {

@@ -1,6 +1,6 @@
 -- `curve::draw_range` meets its contract. Assumes nothing.
 use mathlib.Core.Path.{refl, sym, _∙_}
-use Rattle.drawing.specs.SheetLaws.{draws, yes, no, as-many}
+use Rattle.drawing.specs.PageLaws.{draws, yes, no, as-many}
 use Rattle.curve.specs.Curve.{rangeOf}
 use Rattle.curve.proofs.draw_range.Statement.{statement}
 use Rattle.curve.proofs.draw_range.Tie as tie

@@ -1,6 +1,6 @@
 -- `curve::draw_side` meets its contract. Assumes nothing.
 use mathlib.Core.Path.{refl, sym, _∙_}
-use Rattle.drawing.specs.SheetLaws.{draws, nothing, yes, no, as-many}
+use Rattle.drawing.specs.PageLaws.{draws, nothing, yes, no, as-many}
 use Rattle.curve.specs.Curve.{sideEvents}
 use Rattle.curve.proofs.draw_side.Statement.{statement}
 use Rattle.curve.proofs.draw_side.Tie as tie

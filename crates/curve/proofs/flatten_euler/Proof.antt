@@ -1,6 +1,6 @@
 -- `curve::flatten_euler` meets its contract. Assumes nothing.
 use lib.Ieee.{ofBits, round}
-use Rattle.drawing.specs.SheetLaws.{draws, as-many}
+use Rattle.drawing.specs.PageLaws.{draws, as-many}
 use Rattle.curve.specs.Curve.{eulerEvents}
 use Rattle.curve.proofs.flatten_euler.Statement.{statement}
 use Rattle.curve.proofs.flatten_euler.Tie as tie

@@ -2,7 +2,7 @@
 use Prim.Native.Nat.{_-_}
 use mathlib.Core.Path.{sym, _∙_}
 use native.Mathlib.Omega.{arith}
-use Rattle.drawing.specs.SheetLaws.{Left, begin, turn, done, halts, as-many}
+use Rattle.drawing.specs.PageLaws.{Left, begin, turn, done, halts, as-many}
 use Rattle.curve.specs.Curve.{linesOf}
 use Rattle.curve.proofs.Lines.{lines-turn, lines-last}
 use Rattle.curve.proofs.range_lines.Statement.{statement}

@@ -1,6 +1,6 @@
 -- `curve::side_line` meets its contract. Assumes nothing.
 use lib.Ieee.{ofBits, round}
-use Rattle.drawing.specs.SheetLaws.{draws, as-many}
+use Rattle.drawing.specs.PageLaws.{draws, as-many}
 use Rattle.curve.specs.Curve.{lineOf}
 use Rattle.curve.proofs.side_line.Statement.{statement}
 use Rattle.curve.proofs.side_line.Tie as tie

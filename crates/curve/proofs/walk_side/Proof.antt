@@ -7,7 +7,7 @@ use native.Mathlib.Nat.{le-of-eq}
 use native.Mathlib.Omega.{arith}
 use lib.Ieee.{ofBits, round}
 use Rattle.drawing.specs.Sheet.{Event}
-use Rattle.drawing.specs.SheetLaws.{Left, begin, nothing, turn, done, halts, as-many}
+use Rattle.drawing.specs.PageLaws.{Left, begin, nothing, turn, done, halts, as-many}
 use Rattle.curve.specs.Curve.{frontOf, walk}
 use Rattle.curve.proofs.Walk.{Here, here-start, left, left-start, small, at-end, below, few-zeros, next, next-less, taken, half, half-less}
 use Rattle.curve.proofs.walk_side.Statement.{statement}

@@ -1,5 +1,5 @@
 -- `segment::draw_end` meets its contract. Assumes nothing.
-use Rattle.drawing.specs.SheetLaws.{draws, as-many}
+use Rattle.drawing.specs.PageLaws.{draws, as-many}
 use Rattle.segment.specs.Segment.{endEvents}
 use Rattle.segment.proofs.draw_end.Statement.{statement}
 use Rattle.segment.proofs.draw_end.Tie as tie

@@ -1,6 +1,6 @@
 -- `segment::draw_shape` meets its contract. Assumes nothing.
 use borrow.Author.Needs.{needs}
-use Rattle.drawing.specs.SheetLaws.{nothing, draws, as-many}
+use Rattle.drawing.specs.PageLaws.{nothing, draws, as-many}
 use Rattle.segment.specs.Segment.{shapeEvents}
 use Rattle.segment.proofs.draw_shape.Statement.{statement}
 use Rattle.segment.proofs.draw_shape.Tie as tie

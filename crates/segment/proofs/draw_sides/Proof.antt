@@ -1,6 +1,6 @@
 -- `segment::draw_sides` meets its contract. Assumes nothing.
 use borrow.Author.Needs.{needs}
-use Rattle.drawing.specs.SheetLaws.{then, draws, as-many}
+use Rattle.drawing.specs.PageLaws.{then, draws, as-many}
 use Rattle.segment.specs.Segment.{sidesEvents}
 use Rattle.segment.proofs.draw_sides.Statement.{statement}
 use Rattle.segment.proofs.draw_sides.Tie as tie

@@ -1,7 +1,7 @@
 -- `segment::start_cap` meets its contract. Assumes nothing.
 use borrow.Author.Needs.{needs}
 use lib.Ieee.{ofBits, round}
-use Rattle.drawing.specs.SheetLaws.{draws, as-many}
+use Rattle.drawing.specs.PageLaws.{draws, as-many}
 use Rattle.segment.specs.Segment.{startCapEvents}
 use Rattle.segment.proofs.start_cap.Statement.{statement}
 use Rattle.segment.proofs.start_cap.Tie as tie

@@ -1,7 +1,7 @@
 -- `segment::stroke` meets its contract. Assumes nothing.
 use borrow.Author.Needs.{needs}
 use lib.Ieee.{ofBits, round}
-use Rattle.drawing.specs.SheetLaws.{then, draws, as-many}
+use Rattle.drawing.specs.PageLaws.{then, draws, as-many}
 use Rattle.segment.specs.Segment.{strokeEvents}
 use Rattle.segment.proofs.stroke.Statement.{statement}
 use Rattle.segment.proofs.stroke.Tie as tie

@@ -2,7 +2,7 @@
 use mathlib.Core.Path.{sym, _∙_}
 use native.Mathlib.Omega.{arith}
 use Rattle.drawing.specs.Arc.{chords}
-use Rattle.drawing.specs.SheetLaws.{Left, begin, turn, done, halts, as-many}
+use Rattle.drawing.specs.PageLaws.{Left, begin, turn, done, halts, as-many}
 use Rattle.drawing.proofs.Chords.{chord, last-chord}
 use Rattle.drawing.proofs.arc.draw_chords.Statement.{statement}
 use Rattle.drawing.proofs.arc.draw_chords.Tie as tie

@@ -1,7 +1,7 @@
 -- `drawing::arc::flatten_arc` meets its contract. Assumes nothing.
 use native.Mathlib.Omega.{arith}
 use Rattle.drawing.specs.Arc.{arcOf}
-use Rattle.drawing.specs.SheetLaws.{draws, as-many}
+use Rattle.drawing.specs.PageLaws.{draws, as-many}
 use Rattle.drawing.proofs.Chords.{some-chord}
 use Rattle.drawing.proofs.arc.flatten_arc.Statement.{statement}
 use Rattle.drawing.proofs.arc.flatten_arc.Tie as tie

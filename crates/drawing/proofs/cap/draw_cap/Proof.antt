@@ -1,7 +1,7 @@
 -- `drawing::cap::draw_cap` meets its contract. Assumes nothing.
 use borrow.Author.Tests.{eq-eqb, ne-eqb}
 use Rattle.drawing.specs.Cap.{capBy, capEvents}
-use Rattle.drawing.specs.SheetLaws.{draws, as-many}
+use Rattle.drawing.specs.PageLaws.{draws, as-many}
 use Rattle.drawing.proofs.cap.draw_cap.Statement.{statement}
 use Rattle.drawing.proofs.cap.draw_cap.Tie as tie
 

@@ -1,6 +1,6 @@
 -- `drawing::cap::square_cap` meets its contract. Assumes nothing.
 use Rattle.drawing.specs.Cap.{squareCap}
-use Rattle.drawing.specs.SheetLaws.{then, draws, as-many}
+use Rattle.drawing.specs.PageLaws.{then, draws, as-many}
 use Rattle.drawing.proofs.cap.square_cap.Statement.{statement}
 use Rattle.drawing.proofs.cap.square_cap.Tie as tie
 

@@ -3,7 +3,7 @@ use mathlib.Core.Path.{refl, sym, ap, _∙_}
 use lib.Ieee.{lt, ofBits, round}
 use Rattle.spiral.specs.Util.{robustEpsilon}
 use Rattle.drawing.specs.Cubic.{firstLong}
-use Rattle.drawing.specs.SheetLaws.{yes, no}
+use Rattle.drawing.specs.PageLaws.{yes, no}
 use Rattle.drawing.proofs.cubic.first_long.Statement.{statement}
 use Rattle.drawing.proofs.cubic.first_long.Tie as tie
 

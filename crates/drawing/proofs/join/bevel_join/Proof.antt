@@ -1,7 +1,7 @@
 -- `drawing::join::bevel_join` meets its contract. Assumes nothing.
 use mathlib.Core.Path.{sym, _∙_}
 use Rattle.drawing.specs.Join.{bevelEvents}
-use Rattle.drawing.specs.SheetLaws.{nothing, draws, as-many}
+use Rattle.drawing.specs.PageLaws.{nothing, draws, as-many}
 use Rattle.drawing.proofs.join.bevel_join.Statement.{statement}
 use Rattle.drawing.proofs.join.bevel_join.Tie as tie
 

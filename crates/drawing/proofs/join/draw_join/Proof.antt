@@ -1,7 +1,7 @@
 -- `drawing::join::draw_join` meets its contract. Assumes nothing.
 use borrow.Author.Tests.{eq-eqb, ne-eqb}
 use Rattle.drawing.specs.Join.{joinBy, joinEvents}
-use Rattle.drawing.specs.SheetLaws.{draws, as-many}
+use Rattle.drawing.specs.PageLaws.{draws, as-many}
 use Rattle.drawing.proofs.join.draw_join.Statement.{statement}
 use Rattle.drawing.proofs.join.draw_join.Tie as tie
 

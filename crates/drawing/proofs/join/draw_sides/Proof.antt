@@ -1,5 +1,5 @@
 -- `drawing::join::draw_sides` meets its contract. Assumes nothing.
-use Rattle.drawing.specs.SheetLaws.{as-many}
+use Rattle.drawing.specs.PageLaws.{as-many}
 use Rattle.drawing.proofs.join.draw_sides.Statement.{statement}
 use Rattle.drawing.proofs.join.draw_sides.Tie as tie
 

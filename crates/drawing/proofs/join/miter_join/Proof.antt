@@ -2,7 +2,7 @@
 use mathlib.Core.Path.{refl, sym, _∙_}
 use lib.Ieee.{ofBits, round}
 use Rattle.drawing.specs.Join.{miterEvents}
-use Rattle.drawing.specs.SheetLaws.{then, draws, as-many, yes, no}
+use Rattle.drawing.specs.PageLaws.{then, draws, as-many, yes, no}
 use Rattle.drawing.proofs.join.miter_join.Statement.{statement}
 use Rattle.drawing.proofs.join.miter_join.Tie as tie
 

@@ -1,7 +1,7 @@
 -- `drawing::join::round_join` meets its contract. Assumes nothing.
 use lib.Ieee.{ofBits, round}
 use Rattle.drawing.specs.Join.{roundBy, roundEvents}
-use Rattle.drawing.specs.SheetLaws.{then, draws, as-many}
+use Rattle.drawing.specs.PageLaws.{then, draws, as-many}
 use Rattle.drawing.proofs.join.round_join.Statement.{statement}
 use Rattle.drawing.proofs.join.round_join.Tie as tie
 

@@ -1,6 +1,6 @@
 -- `drawing::line::no_count` meets its contract. Assumes nothing.
 use borrow.Author.Needs.{needs}
-use Rattle.drawing.specs.SheetLaws.{stays}
+use Rattle.drawing.specs.PageLaws.{stays}
 use Rattle.drawing.proofs.Draw.{other-than-on, count-stops}
 use Rattle.drawing.proofs.line.no_count.Statement.{statement}
 use Rattle.drawing.proofs.line.no_count.Tie as tie

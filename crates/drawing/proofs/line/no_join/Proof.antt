@@ -1,6 +1,6 @@
 -- `drawing::line::no_join` meets its contract. Assumes nothing.
 use borrow.Author.Needs.{needs}
-use Rattle.drawing.specs.SheetLaws.{stays}
+use Rattle.drawing.specs.PageLaws.{stays}
 use Rattle.drawing.proofs.Draw.{other-than-on, join-stops}
 use Rattle.drawing.proofs.line.no_join.Statement.{statement}
 use Rattle.drawing.proofs.line.no_join.Tie as tie

@@ -1,5 +1,5 @@
 -- `drawing::line::output_line_with_transform` meets its contract. Assumes nothing.
-use Rattle.drawing.specs.SheetLaws.{draws, line-of, as-many}
+use Rattle.drawing.specs.PageLaws.{draws, line-of, as-many}
 use Rattle.drawing.proofs.line.output_line_with_transform.Statement.{statement}
 use Rattle.drawing.proofs.line.output_line_with_transform.Tie as tie
 

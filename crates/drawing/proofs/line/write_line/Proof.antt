@@ -5,9 +5,9 @@ use native.Mathlib.Omega.{arith}
 use borrow.Author.Needs.{needs}
 use denote.Ref.{now}
 use Rattle.spiral.specs.Util.{hasNan}
-use Rattle.drawing.specs.Sheet.{boxWith}
-use Rattle.drawing.specs.declared.line.IntBbox.{IntBbox}
-use Rattle.drawing.specs.SheetLaws.{stays}
+use Rattle.drawing.specs.Page.{reachWith}
+use Rattle.drawing.specs.declared.line.Reach.{Reach}
+use Rattle.drawing.specs.PageLaws.{stays}
 use Rattle.drawing.proofs.Draw.{other-than-on, nan-first, nan-second, full, goes-on, last-count, no-room, room}
 use Rattle.drawing.proofs.line.write_line.Statement.{statement}
 use Rattle.drawing.proofs.line.write_line.Tie as tie
@@ -45,7 +45,7 @@ returns-5 c =
     let a = k .before .before .before .args in
     goes-on (k .ink .given .1)
     (first (e .before .before)) (second e) (room (now (a .lines)) _ (t .before .if3 .left) (t .if4 .taken))
-    (p .put .ensures) (c .add-pt2 .ensures ∙ ap (λ (b : IntBbox). boxWith b (a .p1)) (c .before .add-pt .ensures))
+    (p .put .ensures) (c .add-pt2 .ensures ∙ ap (λ (b : Reach). reachWith b (a .p1)) (c .before .add-pt .ensures))
 
 returns-6 : tie.Need-returns-6
 returns-6 c =

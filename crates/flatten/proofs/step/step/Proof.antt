@@ -8,8 +8,8 @@ use Rattle.flatten.proofs.step.step.Tie as tie
 returns : tie.Need-returns
 unfolding stepBy stepFromBy
 returns c =
-    let e = c .before .before .before .before .before .before in
-    (rw (← (e .before .before .before .before .read-head .ensures), e .before .before .head .given .1, c .turn-of .ensures) (went _ _ _ _ _ _ _ _ _ (c .before .before .before .before .before .tag-word .ensures) (e .empty .ensures) (c .before .before .before .draw-tag .ensures)), fewer _ _ _ _ (c .turn-of .ensures))
+    let e = c .before .before .before .before .before in
+    (rw (← (e .before .before .before .before .read-head .ensures), e .before .before .head .given .1, c .turn-of .ensures) (went _ _ _ _ _ _ _ _ (e .tag-word .ensures) (c .before .before .before .draw-tag .ensures)), fewer _ _ _ _ (c .turn-of .ensures))
 
 returns-2 : tie.Need-returns-2
 unfolding stepBy stepFromBy
@@ -20,5 +20,5 @@ pub step-spec : {M : Type 1} → statement M
 step-spec =
     tie.close
     (tie.spec
-    (λ c κs. tt) (λ c. search needs) (λ c κs. tt) (λ c. search needs) (λ c κs. tt) (λ c κs. tt) (λ c. search needs) (λ c κs. tt) (λ c. search needs)
+    (λ c κs. tt) (λ c. search needs) (λ c. search needs) (λ c κs. tt) (λ c κs. tt) (λ c. search needs) (λ c κs. tt) (λ c. search needs)
     returns returns-2)
