@@ -11,10 +11,10 @@ use hinthevoun::{Layout, Passed, ProfileRefusal, profile, scan};
 type Told = Result<(u64, u64), (u32, u64)>;
 
 #[derive(Clone)]
-struct Sheet {
-    layout: Layout,
-    scene: Vec<u32>,
-    prefixes: Vec<u32>,
+pub struct Sheet {
+    pub layout: Layout,
+    pub scene: Vec<u32>,
+    pub prefixes: Vec<u32>,
 }
 
 /// Path, transform, style and data words before a tag.
@@ -256,6 +256,16 @@ fn broken(random: &mut Random, sheet: &mut Sheet) {
     }
 }
 
+/// A lay-up sheet, broken in so many ways and scanned afresh.
+pub fn broken_layup(random: &mut Random, ways: u64) -> Sheet {
+    let mut sheet = layup(random);
+    for _ in 0..ways {
+        broken(random, &mut sheet);
+        sheet.scanned();
+    }
+    sheet
+}
+
 /// What the lent lists are damaged in: prefixes, bases, an end that is missing.
 fn damaged(random: &mut Random, sheet: &mut Sheet) {
     match random.below(6) {
@@ -290,12 +300,7 @@ fn broken_sheets(extent: Extent) -> Tally {
     sweep::blocks(many(extent), |block, tally| {
         let mut random = Random::seeded(2 << 40 | block);
         for case in 0..BLOCK {
-            let mut sheet = layup(&mut random);
-            for _ in 0..case % 3 {
-                broken(&mut random, &mut sheet);
-                sheet.scanned();
-            }
-            compare(tally, &sheet);
+            compare(tally, &broken_layup(&mut random, case % 3));
         }
     })
 }

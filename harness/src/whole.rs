@@ -1,13 +1,14 @@
 //! The whole way in one call, against its parts called one by one with a sheet that is packed here: the answer, the stage, the
-//! place and every list whole. For the old table, which no export of its own has, the commands are those of the reference in
-//! `cuts`. Files that are accepted are read by that reference's reader too, which shares no code with the port: all numbers are
-//! the table's, every point is a start as often as an end, and each chain ends where it began.
+//! place and every list whole. The file is the one that the reference in `cuts` writes of the lines, and accepted files are read
+//! by that reference's reader too, which shares no code with the port: all numbers are the table's, every point is a start as
+//! often as an end, and each chain ends where it began.
 //!
 //! Patterns are random texts of the language, now and then damaged, under random transforms, in lists of random lengths that
 //! are often too short.
 
 use crate::Extent;
 use crate::cuts;
+use crate::profile::{Sheet, broken_layup};
 use crate::random::Random;
 use crate::report::{self, Report};
 use crate::sweep::{self, Tally};
@@ -94,13 +95,7 @@ impl Lists {
         let lines = flatten(layout, &self.scene, &self.prefixes, &mut boxes, &mut self.lines)
             .map_err(|refusal| (refusal.number, 5, refusal.tag))?;
         let list = &self.lines[..6 * lines as usize];
-        let (answer, file) = match table {
-            Table::New => {
-                let mut file = vec![MARK_BYTE; self.bytes.len()];
-                (cut(list, 0, &mut file), file)
-            }
-            Table::Old => cuts::expected_cut(list, 0, table, self.bytes.len()),
-        };
+        let (answer, file) = cuts::expected_cut(list, 0, table, self.bytes.len());
         match answer {
             Ok(count) => {
                 self.bytes = file;
@@ -296,6 +291,7 @@ pub fn run(report: &mut Report, extent: Extent) {
     report.check("whole: room exactly enough and one short, by each list", exact);
     report.check("whole: the 4,096th and the 4,097th segment, and tags that just fill their workgroups", limits);
     report.check("whole: numbers near the ends of both tables", ends);
+    report.check("whole: sheets broken in one way or two, from the scan on", || broken_sheets(extent));
     report.check("whole: at most 1.3 times its parts", in_time);
 }
 
@@ -311,6 +307,39 @@ fn random_patterns(extent: Extent) -> Tally {
         let others = seen.iter().all(|what| MAY_BE_SEEN.contains(what));
         tally.count(all && others, || format!("block {block} saw too little, or besides {seen:?}"));
     })
+}
+
+/// Sheets that another hand wrote, from the scan on: each is refused with a number, or what it draws, as one path, is a file of
+/// closed chains.
+fn broken_sheets(extent: Extent) -> Tally {
+    let sheets = if extent == Extent::Whole { 1_000_000 } else { 20_000 };
+    sweep::blocks(sheets / BLOCK, |block, tally| {
+        let (mut random, mut whole) = (Random::seeded(31 << 32 | block), 0);
+        for case in 0..BLOCK {
+            match file_of(&broken_layup(&mut random, case % 3)) {
+                Ok(file) => {
+                    let fault = fault_of(&file, Table::New);
+                    tally.count(fault.is_none(), || fault.unwrap_or_default());
+                    whole += 1;
+                }
+                Err(number) => tally.count(number != 0, || "a refusal without a number".to_string()),
+            }
+        }
+        tally.count(whole > 0 && whole < BLOCK, || format!("block {block}: {whole} of {BLOCK} were cut"));
+    })
+}
+
+/// The file of all that a sheet draws, or the number of its first refusal.
+fn file_of(sheet: &Sheet) -> Result<Vec<u8>, u32> {
+    let Sheet { layout, scene, prefixes } = sheet;
+    profile(*layout, scene, prefixes).map_err(|refusal| refusal.number())?;
+    let (mut boxes, mut lines, mut file) = ([PathBox::EMPTY; 32], vec![0; AMPLE.lines], vec![0; AMPLE.bytes]);
+    let count = flatten(*layout, scene, prefixes, &mut boxes, &mut lines).map_err(|refusal| refusal.number)?;
+    lines.truncate(6 * count as usize);
+    lines.iter_mut().step_by(6).for_each(|path| *path = 0);
+    let bytes = cut(&lines, 0, &mut file).map_err(|refusal| refusal.number())?;
+    file.truncate(bytes);
+    Ok(file)
 }
 
 /// How much of each list a text needs.
