@@ -26,7 +26,7 @@ use Rattle.watertight.specs.Fill.{Call, outcome}
 use Rattle.watertight.specs.Fill as fills
 use Rattle.hpgl.specs.Export.{cutReport}
 use Rattle.hpgl.specs.declared.Table.{Table}
-use Rattle.cut.specs.Sheet.{tagBytes, sixOf, fillStyle, layoutBy, tagWords, sizeOf, fits, layOf}
+use Rattle.cut.specs.Sheet.{sixOf, fillStyle, layoutBy, tagWords, sizeOf, fits, layOf}
 use Rattle.cut.specs.Stages.{exportStage, flattenStage, profileStage, scanStage, laidBy, sheetStage, cutOf}
 use Rattle.cut.specs.declared.sheet.Six.{Six}
 use Rattle.cut.specs.declared.Answer.the-variants.{Whole}
@@ -94,8 +94,8 @@ module _ (text : List ℕ) (z : Six) (table : Table) (tags points scene prefixes
       meaning-finishes commands (fresh tags points)
       (ap (λ (o : Outcome). o .number) (sym (all-after (meaning commands) (fresh tags points) refl (k .drawable))) ∙ k .drawable)
 
-  abbrev small : (i : ℕ) → getD (tagBytes ds) i 0 < 256
-  small = drawn.small tags points (meaning commands) finishes six scene prefixes lines refl
+  abbrev sheet : sheets.Sound ds ws six scene prefixes lines
+  sheet = drawn.sheet tags points (meaning commands) finishes six scene prefixes lines refl (k .few)
 
   count : length ds ≡ left tags points (meaning commands) .pen .tags
   count = drawn.count tags points (meaning commands) finishes six scene prefixes lines refl
@@ -103,26 +103,25 @@ module _ (text : List ℕ) (z : Six) (table : Table) (tags points scene prefixes
   -- the sheet is one that the profile takes
   lay-up : LayUp its (left tags points (meaning commands))
   lay-up =
-      let few = k .few in
-      let b = sheets.bases ds ws six scene prefixes lines refl few small in
+      let b = sheets.bases sheet in
       record {
-        fresh = sheets.fresh ds ws six scene prefixes lines refl few small;
-        lent = sheets.lent ds ws six scene prefixes lines refl few small (k .prefixes-lent);
+        fresh = sheets.fresh sheet;
+        lent = sheets.lent sheet (k .prefixes-lent);
         tag-base = b .0;
         data-base = b .1;
-        transform-tag = sheets.transform-tag ds ws six scene prefixes lines refl few small;
-        style-tag = sheets.style-tag ds ws six scene prefixes lines refl few small;
-        drawn = drawn.placed tags points (meaning commands) finishes six scene prefixes lines refl few;
-        path-tag = subst (λ (m : ℕ). byteOf (placing.tagWords its) (2 + m) ≡ 0x10) count (sheets.path-tag ds ws six scene prefixes lines refl few small);
-        nothing-more = subst (λ (m : ℕ). (i : ℕ) → 2 + m < i → i < fills.tags its → byteOf (placing.tagWords its) i ≡ 0) count (sheets.nothing-more ds ws six scene prefixes lines refl few small);
-        in-call = omega (arith, sheets.all-tags ds ws six scene prefixes lines refl few small, sheets.enough ds ws six scene prefixes lines refl few small, count);
+        transform-tag = sheets.transform-tag sheet;
+        style-tag = sheets.style-tag sheet;
+        drawn = drawn.placed tags points (meaning commands) finishes six scene prefixes lines refl (k .few);
+        path-tag = subst (λ (m : ℕ). byteOf (placing.tagWords its) (2 + m) ≡ 0x10) count (sheets.path-tag sheet);
+        nothing-more = subst (λ (m : ℕ). (i : ℕ) → 2 + m < i → i < fills.tags its → byteOf (placing.tagWords its) i ≡ 0) count (sheets.nothing-more sheet);
+        in-call = omega (arith, sheets.all-tags sheet, sheets.enough sheet, count);
         few = omega (arith, k .segments, count);
-        fill = sheets.fill ds ws six scene prefixes lines refl few small;
-        nonzero = sheets.nonzero ds ws six scene prefixes lines refl few small;
+        fill = sheets.fill sheet;
+        nonzero = sheets.nonzero sheet;
         flags-before = getD (six ++ fillStyle) 4 0;
-        before-styles = sheets.before-styles ds ws six scene prefixes lines refl few small;
-        there = sheets.transform-there ds ws six scene prefixes lines refl few small;
-        no-shear = sheets.same-shear ds ws six scene prefixes lines refl few small ∙ k .no-shear;
+        before-styles = sheets.before-styles sheet;
+        there = sheets.transform-there sheet;
+        no-shear = sheets.same-shear sheet ∙ k .no-shear;
       }
 
   profile-passes : toldOf (profileOf (given (its .layout) (its .scene) (its .prefixes))) .number ≡ 0

@@ -178,7 +178,7 @@ module _ (tags points : List ℕ) (cs : List Command) (e : Finished (left tags p
   segments-all : AllSegments drawn
   segments-all = subst AllSegments (sym drawn-is) (all-bytes ss)
 
-  pub small : (i : ℕ) → getD (tagBytes drawn) i 0 < 256
+  small : (i : ℕ) → getD (tagBytes drawn) i 0 < 256
   small = small-tags drawn segments-all
 
   module _ (few : sizeOf (length drawn) (length words) < 2 ^ 31) where
@@ -188,30 +188,33 @@ module _ (tags points : List ℕ) (cs : List Command) (e : Finished (left tags p
     abbrev N : ℕ
     N = length drawn
 
+    pub sheet : sheets.Sound drawn words six scene prefixes lines
+    sheet = record { six-long = six-long; few = few; small = small }
+
     pub placed : Placed c 2 (left tags points cs)
     placed =
         record {
-          here = record { byte = sheets.drawn-tag drawn words six scene prefixes lines six-long few small; its-data = sheets.its-points drawn words six scene prefixes lines six-long few small };
+          here = record { byte = sheets.drawn-tag sheet; its-data = sheets.its-points sheet };
           few = unfold sizeOf in omega (arith, few, offset);
         }
       where
         offset : sumsTo (tagWords c) 2 .«pathseg_offset» ≡ 0
-        offset = let b = sheets.begins drawn words six scene prefixes lines six-long few small .data-base in omega (arith, b)
+        offset = let b = sheets.begins sheet .data-base in omega (arith, b)
 
     pub in-call : 2 + left tags points cs .pen .tags ≤ fills.tags c
-    in-call = omega (arith, sheets.all-tags drawn words six scene prefixes lines six-long few small, sheets.enough drawn words six scene prefixes lines six-long few small, count)
+    in-call = omega (arith, sheets.all-tags sheet, sheets.enough sheet, count)
 
     -- no path tag stands before the tag behind what was drawn
     path-bit : (i : ℕ) → i < 2 + N → bit (byteOf (tagWords c) i) 0x10 ≡ 0
     path-bit i l =
         elim (decLt i 2) [
           | yes a ↦ elim (ℕ-discrete i 0) [
-            | yes z ↦ rw (z, sheets.transform-tag drawn words six scene prefixes lines six-long few small)
-            | no nz ↦ let o : i ≡ 1 = omega (arith, a, nz) in rw (o, sheets.style-tag drawn words six scene prefixes lines six-long few small)
+            | yes z ↦ rw (z, sheets.transform-tag sheet)
+            | no nz ↦ let o : i ≡ 1 = omega (arith, a, nz) in rw (o, sheets.style-tag sheet)
           ]
           | no g ↦
               let j : i ≡ 2 + (i - 2) = omega (arith, g) in
-              let b = sheets.drawn-tag drawn words six scene prefixes lines six-long few small (i - 2) (omega (arith, l, g)) in
+              let b = sheets.drawn-tag sheet (i - 2) (omega (arith, l, g)) in
               let s = segments-all (i - 2) (omega (arith, l, g)) .low in
               rw (j, b) (omega (arith, s))
         ]
@@ -228,7 +231,7 @@ module _ (tags points : List ℕ) (cs : List Command) (e : Finished (left tags p
       its-tag i l =
           let p : HeadParts (c .layout) (c .scene) (c .prefixes) (length (c .boxes)) i (headOf c i) =
           head-parts (c .layout) (c .scene) (c .prefixes) (length (c .boxes)) i (headOf c i) (done c a .sound i l .head) in
-          fresh-tag (c .scene) (c .layout .«tag_base») (c .prefixes) (sheets.fresh drawn words six scene prefixes lines six-long few small) i (headOf c i .tag) (p .tag) .1
+          fresh-tag (c .scene) (c .layout .«tag_base») (c .prefixes) (sheets.fresh sheet) i (headOf c i .tag) (p .tag) .1
 
       type-is : (i : ℕ) → i < fills.tags c → typeOf c i ≡ byteOf (tagWords c) i % 4
       unfolding tagData
@@ -242,7 +245,7 @@ module _ (tags points : List ℕ) (cs : List Command) (e : Finished (left tags p
       drawn-byte : (i : ℕ) → 2 ≤ i → i < 2 + N → IsSegment (byteOf (tagWords c) i)
       drawn-byte i g l =
           let j : 2 + (i - 2) ≡ i = omega arith in
-          let b = sheets.drawn-tag drawn words six scene prefixes lines six-long few small (i - 2) (omega arith) in
+          let b = sheets.drawn-tag sheet (i - 2) (omega arith) in
           subst (λ (k : ℕ). IsSegment (byteOf (tagWords c) k)) j (subst IsSegment (sym b) (segments-all (i - 2) (omega arith)))
 
       low-some : (b : ℕ) → IsSegment b → eqb b 0 ≡ false
@@ -265,8 +268,8 @@ module _ (tags points : List ℕ) (cs : List Command) (e : Finished (left tags p
       others : (j : ℕ) → 2 + N ≤ j → j < fills.tags c → ownSegment c 0 j ≡ false
       others j g l =
           elim (ℕ-discrete j (2 + N)) [
-            | yes z ↦ not-own j 0x10 l (ap (byteOf (tagWords c)) z ∙ sheets.path-tag drawn words six scene prefixes lines six-long few small) refl
-            | no ne ↦ not-own j 0 l (sheets.nothing-more drawn words six scene prefixes lines six-long few small j (omega (arith, g, ne)) l) refl
+            | yes z ↦ not-own j 0x10 l (ap (byteOf (tagWords c)) z ∙ sheets.path-tag sheet) refl
+            | no ne ↦ not-own j 0 l (sheets.nothing-more sheet j (omega (arith, g, ne)) l) refl
           ]
 
       -- the segments of the path are the tags that the commands wrote, in order
@@ -276,8 +279,8 @@ module _ (tags points : List ℕ) (cs : List Command) (e : Finished (left tags p
           let size : fills.tags c ≡ suc (suc (N + k)) = omega (arith, in-call, count) in
           let inside : 1 < fills.tags c = omega (arith, in-call) in
           ap (λ (n : ℕ). segmentsFrom c 0 n 0) size
-          ∙ two-not-own c (N + k) (not-own 0 0x20 (omega (arith, inside)) (sheets.transform-tag drawn words six scene prefixes lines six-long few small) refl)
-          (not-own 1 0x40 inside (sheets.style-tag drawn words six scene prefixes lines six-long few small) refl)
+          ∙ two-not-own c (N + k) (not-own 0 0x20 (omega (arith, inside)) (sheets.transform-tag sheet) refl)
+          (not-own 1 0x40 inside (sheets.style-tag sheet) refl)
           ∙ all-own c N k 2 own
           ∙ ap (λ (js : List ℕ). tagsFrom 2 N ++ js) (none-own c k (2 + N) (λ j g l. others j g (omega (arith, l, size))))
           ∙ append-nil (tagsFrom 2 N)
@@ -291,6 +294,6 @@ module _ (tags points : List ℕ) (cs : List Command) (e : Finished (left tags p
       pub closed-in-order : ClosedInOrder c 0
       closed-in-order =
           let row : tagsFrom 2 N ≡ allOf (outlines 2 ss) = ap (tagsFrom 2) (ap length drawn-is) ∙ in-a-row 2 ss in
-          let runs = closed-runs tags points cs e c 2 placed a (sheets.fresh drawn words six scene prefixes lines six-long few small) (sheets.fill drawn words six scene prefixes lines six-long few small) in-call in
+          let runs = closed-runs tags points cs e c 2 placed a (sheets.fresh sheet) (sheets.fill sheet) in-call in
           let k = as-outlines c (outlines 2 ss) runs (subst (Each (OfPath c)) row (each-from 2 N (omega arith) (omega arith))) in
           record { outlines = k .0; closed-fills = k .1; in-order = segments-are ∙ row ∙ k .2 }

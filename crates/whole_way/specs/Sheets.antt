@@ -34,8 +34,13 @@ unpacked f h (suc (suc (suc (suc j)))) l = absurd (omega arith)
 
 -- ---- the sheet
 
-module _ (drawn points six scene prefixes lines : List ℕ) (six-long : length six ≡ 6) (few : sizeOf (length drawn) (length points) < 2 ^ 31)
-    (small : (i : ℕ) → getD (tagBytes drawn) i 0 < 256) where
+-- what is asked of one: six words of a transform, fewer than 2^31 words in all, and tags that are bytes
+pub record Sound (drawn points six scene prefixes lines : List ℕ) : Type 0 where
+  pub six-long : length six ≡ 6
+  pub few : sizeOf (length drawn) (length points) < 2 ^ 31
+  pub small : (i : ℕ) → getD (tagBytes drawn) i 0 < 256
+
+module _ {drawn points six scene prefixes lines : List ℕ} (s : Sound drawn points six scene prefixes lines) where
   abbrev c : Call
   c = sheetCall drawn points six scene prefixes lines
 
@@ -47,7 +52,7 @@ module _ (drawn points six scene prefixes lines : List ℕ) (six-long : length s
 
   sheet-word : (k : ℕ) → k < sizeOf (length drawn) (length points) → getD (sceneOf drawn points six scene) k 0 ≡ getD (sheetOf drawn points six) k 0
   unfolding sceneOf
-  sheet-word k l = List·getD-append (sheetOf drawn points six) rest 0 k (omega (arith, l, length-sheet drawn points six six-long))
+  sheet-word k l = List·getD-append (sheetOf drawn points six) rest 0 k (omega (arith, l, length-sheet drawn points six (s .six-long)))
 
   -- tag i of the call
   pub tag-byte : (i : ℕ) → i < W * 4 → byteOf (placing.tagWords c) i ≡ getD (tagBytes drawn) i 0
@@ -57,7 +62,7 @@ module _ (drawn points six scene prefixes lines : List ℕ) (six-long : length s
       let word = sheet-word (i / 4) (omega arith) ∙ word-of-tags drawn points six (i / 4) k in
       let back : i / 4 * 4 + i % 4 ≡ i = omega arith in
       ap (λ (w : ℕ). byteAt w (i % 4)) word
-      ∙ unpacked (λ j. getD (tagBytes drawn) (i / 4 * 4 + j) 0) (λ j. small (i / 4 * 4 + j)) (i % 4) (omega arith)
+      ∙ unpacked (λ j. getD (tagBytes drawn) (i / 4 * 4 + j) 0) (λ j. s .small (i / 4 * 4 + j)) (i % 4) (omega arith)
       ∙ ap (λ (n : ℕ). getD (tagBytes drawn) n 0) back
 
   -- the tags of all workgroups have words, and the three more than those drawn are among them
@@ -110,7 +115,7 @@ module _ (drawn points six scene prefixes lines : List ℕ) (six-long : length s
   pub its-transform : take 6 (drop (c .layout .«transform_base» + transformAt c 2 * 6) (c .scene)) ≡ six
   its-transform =
       let at : c .layout .«transform_base» + transformAt c 2 * 6 ≡ W + length points = unfold sheetCall in unfold layoutBy in omega (arith, begins .first-transform) in
-      ap (λ (n : ℕ). take 6 (drop n (c .scene))) at ∙ ap (take 6) behind-points ∙ take-at six (fillStyle ++ rest) 6 six-long
+      ap (λ (n : ℕ). take 6 (drop n (c .scene))) at ∙ ap (take 6) behind-points ∙ take-at six (fillStyle ++ rest) 6 (s .six-long)
 
   -- ---- the scan and the style
 
@@ -120,7 +125,7 @@ module _ (drawn points six scene prefixes lines : List ℕ) (six-long : length s
 
   pub long : sizeOf (length drawn) (length points) ≤ length (c .scene)
   unfolding sheetCall sceneOf
-  long = omega (arith, length-append (sheetOf drawn points six) rest, length-sheet drawn points six six-long)
+  long = omega (arith, length-append (sheetOf drawn points six) rest, length-sheet drawn points six (s .six-long))
 
   -- a word of the transform or the style
   tail-word : (i : ℕ) → i < 8 → getD (c .scene) (W + length points + i) 0 ≡ getD (six ++ fillStyle) i 0
@@ -136,8 +141,8 @@ module _ (drawn points six scene prefixes lines : List ℕ) (six-long : length s
   pub fill : FillAt c 2
   unfolding flagsOf sheetCall layoutBy sizeOf
   fill =
-      let at : (c .layout .«style_base» + styleAt c 2) % 2 ^ 32 ≡ W + length points + 6 = omega (arith, few, begins .first-style) in
-      record { flags = 0; read = ap (wordAt (c .scene)) at ∙ tail-read 6 (omega arith) ∙ ap found (zeros-behind six 6 (omega (arith, six-long))); no-stroke = refl }
+      let at : (c .layout .«style_base» + styleAt c 2) % 2 ^ 32 ≡ W + length points + 6 = omega (arith, s .few, begins .first-style) in
+      record { flags = 0; read = ap (wordAt (c .scene)) at ∙ tail-read 6 (omega arith) ∙ ap found (zeros-behind six 6 (omega (arith, s .six-long))); no-stroke = refl }
 
   -- by the nonzero rule
   pub nonzero : eqb (bit (fill .flags) 0x40000000) 1 ≡ false
@@ -150,14 +155,14 @@ module _ (drawn points six scene prefixes lines : List ℕ) (six-long : length s
   pub before-styles : flagsOf (c .scene) (c .layout .«style_base») (2 ^ 32 - 2) ≡ found (getD (six ++ fillStyle) 4 0)
   unfolding flagsOf sheetCall layoutBy sizeOf
   before-styles =
-      let at : (c .layout .«style_base» + (2 ^ 32 - 2)) % 2 ^ 32 ≡ W + length points + 4 = omega (arith, few) in
+      let at : (c .layout .«style_base» + (2 ^ 32 - 2)) % 2 ^ 32 ≡ W + length points + 4 = omega (arith, s .few) in
       ap (wordAt (c .scene)) at ∙ tail-read 4 (omega arith)
 
   pub transform-there : transformOf (c .scene) (c .layout .«transform_base») 0 .found ≡ true
   unfolding transformOf sheetCall layoutBy sizeOf
   transform-there =
       let at : W + length points + 0 * 6 ≡ W + length points = omega arith in
-      rw (at, lt-ltb (W + length points) (2 ^ 32) (omega (arith, few)), le-leb (W + length points + 6) (length (c .scene)) (omega (arith, long)))
+      rw (at, lt-ltb (W + length points) (2 ^ 32) (omega (arith, s .few)), le-leb (W + length points + 6) (length (c .scene)) (omega (arith, long)))
 
   -- the shear of the sheet is that of the six words
   pub same-shear : straight (sixAt (c .scene) (c .layout .«transform_base»)) ≡ straight six
@@ -165,7 +170,7 @@ module _ (drawn points six scene prefixes lines : List ℕ) (six-long : length s
   same-shear = rw (word 1 (omega arith), word 2 (omega arith))
     where
       word : (i : ℕ) → i < 6 → getD (c .scene) (W + length points + i) 0 ≡ getD six i 0
-      word i l = tail-word i (omega arith) ∙ List·getD-append six fillStyle 0 i (omega (arith, six-long, l))
+      word i l = tail-word i (omega arith) ∙ List·getD-append six fillStyle 0 i (omega (arith, s .six-long, l))
 
   pub bases : (c .layout .«tag_base» ≤ length (c .scene)) × (c .layout .«data_base» ≤ length (c .scene))
   unfolding sheetCall layoutBy sizeOf

@@ -92,15 +92,13 @@ module _ (tags points : List ℕ) (cs : List Command) (e : Finished (left tags p
   lines-of-call : roundedLines 0 list ≡ rounded (flattened six (subpaths tags points cs))
   lines-of-call =
       let few = k .few in
-      let small = drawn.small tags points cs e six scene prefixes lines six-long in
-      let d = drawnTags (left tags points cs) in
-      let w = drawnPoints (left tags points cs) in
+      let sheet = drawn.sheet tags points cs e six scene prefixes lines six-long few in
       lines-are c a 0
       ∙ ap (λ (is : List ℕ). rounded (linesOf c is)) (drawn.segments-are tags points cs e six scene prefixes lines six-long few a ∙ ap (tagsFrom 2) (drawn.count tags points cs e six scene prefixes lines six-long))
       ∙ ap rounded
-      (lines-drawn tags points cs e c 2 (drawn.placed tags points cs e six scene prefixes lines six-long few) a (sheets.fresh d w six scene prefixes lines six-long few small)
-      (sheets.fill d w six scene prefixes lines six-long few small) (drawn.in-call tags points cs e six scene prefixes lines six-long few)
-      ∙ ap (λ (z : List ℕ). flattened z (subpaths tags points cs)) (sheets.its-transform d w six scene prefixes lines six-long few small))
+      (lines-drawn tags points cs e c 2 (drawn.placed tags points cs e six scene prefixes lines six-long few) a (sheets.fresh sheet)
+      (sheets.fill sheet) (drawn.in-call tags points cs e six scene prefixes lines six-long few)
+      ∙ ap (λ (z : List ℕ). flattened z (subpaths tags points cs)) (sheets.its-transform sheet))
 
   the-chains : (ds : List Chain) × (its-bytes ≡ fileText ds) × (roundedLines 0 list ≡ chainLines ds) × AllClosed ds
   the-chains =
