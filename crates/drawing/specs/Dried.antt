@@ -7,12 +7,12 @@ use native.Mathlib.Omega.{arith}
 use lib.Dec.{T, ltb, nltb→le}
 use lib.IntN.{ℤ, pos, negsuc}
 use lib.Signed.{ltZ}
-use lib.Ieee.{Float, nan, inf, fin, lt, isNan, toSigned}
+use lib.Ieee.{Float, lt, isNan, toSigned}
 use Rattle.maths.specs.Numbers.{floorOf, ceilOf, lt-once, floor-rises, ceil-rises, floor-above, ceil-below}
 use Rattle.spiral.specs.declared.util.Vec2.{Vec2}
 use Rattle.spiral.specs.Util.{hasNan}
 use Rattle.drawing.specs.Sheet.{Event, line, noCount, noJoin, lowerOf, higherOf, emptyBox, boxWith, Sheet, sheet, hasRoom, stored, drawOn, draw, drawAll}
-use Rattle.drawing.specs.Page.{lesserOf, greaterOf, emptyReach, reachWith, wholeBox, driedOf, Page, page, nibBehind, inked, inkOn, inkEvent, inkAll}
+use Rattle.drawing.specs.Page.{lesserOf, greaterOf, emptyReach, reachWith, wholeBox, driedOf, Page, inked, inkOn, inkEvent, inkAll}
 use Rattle.drawing.specs.declared.line.IntBbox.{IntBbox}
 use Rattle.drawing.specs.declared.line.Pen.{Pen}
 use Rattle.drawing.specs.declared.line.Reach.{Reach}

@@ -6,7 +6,6 @@ use mathlib.Core.List.{List, [], _∷_, _++_}
 use native.Mathlib.Omega.{arith}
 use lib.ListN.{length}
 use lib.Seq.{length-sets}
-use Rattle.refusals.specs.Refusals.{numberOf}
 use Rattle.refusals.specs.Laws.{named, number-names}
 use Rattle.refusals.specs.declared.Refusal.{Refusal}
 use Rattle.spiral.specs.declared.util.Vec2.{Vec2}

@@ -11,7 +11,7 @@ use lib.Seq.{sets, length-sets}
 use lib.Ieee.{binary32, ofBits}
 use borrow.Author.Tests.{lt-ltb, le-ltb, le-leb, lt-leb, eq-eqb, ne-eqb}
 use Rattle.records.specs.Record.{count, word, pathOf}
-use Rattle.hpgl.specs.Text.{numeral, signedOf}
+use Rattle.hpgl.specs.Text.{numeral}
 use Rattle.hpgl.specs.TextLaws.{Stored, sets-append}
 use Rattle.hpgl.specs.Form.{Pen, up, down, letter, command, Range, rangeOf}
 use Rattle.hpgl.specs.declared.Point.{Point}

@@ -1,11 +1,11 @@
 -- The floor and the ceiling as integers rise with the number: where y is not below x, neither is what y is brought to. Assumes nothing.
 use mathlib.Core.Path.{_≡_, refl, sym, ap, _∙_, subst}
-use mathlib.Core.Logic.{_⊎_, inl, inr}
-use mathlib.Core.Bool.{Bool, true, false, not, _||_, _&&_, cond}
+use mathlib.Core.Logic.{inl, inr}
+use mathlib.Core.Bool.{Bool, true, false, not, _||_, _&&_}
 use Prim.Native.Nat.{ℕ, zero, suc, _+_, _-_, _*_, _/_, _^_, _≤_, _<_, zero-le, min}
-use native.Mathlib.Nat.{le-refl, le-trans, le-of-eq, le-of-lt, zero-lt-suc, mul-le-mul-right, mul-right-comm, le-of-mul-le-mul-right, lt-of-mul-lt-mul-right, mul-one, add-mul}
+use native.Mathlib.Nat.{le-refl, le-trans, le-of-eq, le-of-lt, zero-lt-suc, mul-le-mul-right, mul-right-comm, le-of-mul-le-mul-right, lt-of-mul-lt-mul-right}
 use native.Mathlib.Omega.{arith}
-use lib.IntN.{ℤ, pos, negsuc, negℤ}
+use lib.IntN.{ℤ, pos, negℤ}
 use lib.Dec.{T, ltb, eqb, ltb→lt, nltb→le, eqb→eq}
 use lib.Signed.{ltZ}
 use lib.Ieee.{Float, nan, inf, fin, binary32, up, down, round, neg, lt, le, isNan, toSigned}
