@@ -29,11 +29,12 @@ use Rattle.own_lists.specs.Pass.{records}
 use Rattle.hpgl.specs.Text.{pick}
 use Rattle.hpgl.specs.Form.{fileText, Line, AllClosed, Range}
 use Rattle.hpgl.specs.Form.{linesOf as chainLines, Chain as Cut}
-use Rattle.hpgl.specs.Rounding.{pointOf}
+use Rattle.hpgl.specs.Rounding.{Taken, pointOf}
 use Rattle.hpgl.specs.Export.{exportOf, roundedFrom, roundedLines}
 use Rattle.hpgl.specs.RoundTrip.{isWritten}
+use Rattle.hpgl.specs.Taken.{all-taken}
 use Rattle.hpgl.specs.Loops.{Turn, Within, First, Loops, export-closed}
-use Rattle.closed_cuts.specs.Closed.{segmentsFrom, ClosedInOrder, rounded}
+use Rattle.closed_cuts.specs.Closed.{segmentsFrom, ClosedInOrder, rounded, AllTaken}
 
 -- ---- the lines of a path among records
 
@@ -290,6 +291,32 @@ read-rounded path ws (suc n) i es r =
 pub lines-are : (c : Call) (a : Accepted c) (path : ℕ) → roundedLines path (listOf c a) ≡ rounded (linesOf c (segmentsFrom c path (tags c) 0))
 unfolding roundedLines
 lines-are c a path = read-rounded path (listOf c a) (count (listOf c a)) 0 _ (own-records c a path)
+
+by-taken : (r : Range) (own : Bool) (next : List Event → Type 0) (u v z w : ℕ) → (T own → Taken r u v × Taken r z w) → ((es : List Event) → next es → AllTaken r es)
+    → (es : List Event) → ReadBy own next u v z w es → AllTaken r es
+unfolding AllTaken
+by-taken r false next u v z w g h es k = h es k
+by-taken r true next u v z w g h [] k = absurd k
+by-taken r true next u v z w g h (line p q ∷ es) k =
+    let b = g tt in
+    let start = subst (λ (y : ℕ). Taken r (wx p) y) (k .1) (subst (λ (x : ℕ). Taken r x v) (k .0) (b .0)) in
+    let end = subst (λ (y : ℕ). Taken r (wx q) y) (k .3) (subst (λ (x : ℕ). Taken r x w) (k .2) (b .1)) in
+    (start, end, h es (k .4))
+by-taken r true next u v z w g h (noCount ∷ es) k = absurd k
+by-taken r true next u v z w g h (noJoin ∷ es) k = absurd k
+
+read-taken : (r : Range) (path : ℕ) (ws : List ℕ) (n i : ℕ) (es : List Event)
+    → ((j : ℕ) → i ≤ j → j < i + n → T (eqb (pathOf ws j) path) → Taken r (word ws j 2) (word ws j 3) × Taken r (word ws j 4) (word ws j 5)) → Reads path ws n i es → AllTaken r es
+unfolding Reads AllTaken
+read-taken r path ws zero i es g k = subst (AllTaken r) (sym k) tt
+read-taken r path ws (suc n) i es g k =
+    by-taken r (eqb (pathOf ws i) path) (Reads path ws n (suc i)) (word ws i 2) (word ws i 3) (word ws i 4) (word ws i 5) (g i (omega arith) (omega arith))
+    (λ es. read-taken r path ws n (suc i) es (λ j a b. g j (omega arith) (omega arith))) es k
+
+-- ---- the theorem: where a path was exported for a table, what its segments draw are lines of numbers that the table takes, so that nothing that is no number was taken for 0
+pub lines-taken : (r : Range) (c : Call) (a : Accepted c) (path room : ℕ) → T (isWritten (exportOf r path room (listOf c a) .verdict)) → AllTaken r (linesOf c (segmentsFrom c path (tags c) 0))
+lines-taken r c a path room w =
+    read-taken r path (listOf c a) (count (listOf c a)) 0 _ (λ j g l. all-taken r path (listOf c a) room w j (omega (arith, l))) (own-records c a path)
 
 -- ---- the theorem: each chain of the cut of a path whose outlines are closed, one behind the other, ends where it began
 pub chains-close : (r : Range) (c : Call) (a : Accepted c) (path : ℕ) → ClosedInOrder c path → (room : ℕ) → T (isWritten (exportOf r path room (listOf c a) .verdict))

@@ -12,8 +12,8 @@ use Rattle.spiral.specs.declared.util.Vec2.{Vec2}
 use Rattle.drawing.specs.Sheet.{Event, line, noCount, noJoin}
 use Rattle.watertight.specs.Fill.{Call, tags, pathAt, typeOf, drawnAt}
 use Rattle.own_lists.specs.Fills.{Outline, ClosedFill, EachOutline, tagsOf, times}
-use Rattle.hpgl.specs.Form.{Line}
-use Rattle.hpgl.specs.Rounding.{pointOf}
+use Rattle.hpgl.specs.Form.{Line, Range}
+use Rattle.hpgl.specs.Rounding.{Taken, pointOf}
 use Rattle.hpgl.specs.declared.Point.{Point}
 
 -- what is asked of a path of an accepted call
@@ -50,6 +50,13 @@ rounded [] = []
 rounded (line p q ∷ es) = record { from = roundedPoint p; to = roundedPoint q } ∷ rounded es
 rounded (noCount ∷ es) = rounded es
 rounded (noJoin ∷ es) = rounded es
+
+-- each event is a line, and a range takes both of its ends: no count is missing, and no NaN or infinity is among the numbers
+unfoldable pub AllTaken : Range → List Event → Type 0
+AllTaken r [] = Unit {0}
+AllTaken r (line p q ∷ es) = Taken r (toBits binary32 (p .x)) (toBits binary32 (p .y)) × Taken r (toBits binary32 (q .x)) (toBits binary32 (q .y)) × AllTaken r es
+AllTaken r (noCount ∷ es) = ⊥
+AllTaken r (noJoin ∷ es) = ⊥
 
 -- ---- plotter points
 unfoldable pub sameNumber : ℤ → ℤ → Bool

@@ -25,3 +25,4 @@ pub mod Completion
 pub mod Stops
 pub mod CommandLaws
 pub mod Only
+pub mod Taken

@@ -1,8 +1,8 @@
 -- The whole number nearest to a float, ties to even. Definitions only.
-use mathlib.Core.Bool.{Bool, false}
+use mathlib.Core.Bool.{Bool, false, _&&_}
 use Prim.Native.Nat.{ℕ, suc, _*_}
 use lib.IntN.{ℤ, pos, negsuc}
-use lib.Dec.{leb}
+use lib.Dec.{T, leb}
 use lib.Ieee.{Float, nan, inf, fin, binary32, up, down, ofBits}
 use lib.Ieee.Nearest.{closest}
 use Rattle.hpgl.specs.Text.{signedOf}
@@ -24,6 +24,10 @@ unfoldable pub isGood : Range → Float → Bool
 isGood r nan = false
 isGood r (inf s) = false
 isGood r (fin s m e) = isWithin r (roundedOf (fin s m e))
+
+-- two words that a range takes: both are such floats
+abbrev pub Taken : Range → ℕ → ℕ → Type 0
+Taken r x y = T (isGood r (ofBits binary32 x) && isGood r (ofBits binary32 y))
 
 -- the point of two words
 unfoldable pub pointOf : ℕ → ℕ → Point

@@ -8,6 +8,7 @@
 --   six           the words of six f32: a, b, c, d, e, f take (x, y) to (a*x + c*y + e, b*x + d*y + f)
 --   flattened     the lines of each segment of each outline in turn, as the flattening defines a fill, under the six numbers (outlines, Flattened)
 --   rounded       those lines with each end at the nearest whole plotter unit, ties to even (closed_cuts, Closed)
+--   AllTaken      each of those is a line, not a stop, and both its ends are finite numbers that, rounded, are in a range (closed_cuts, Closed)
 --   fileText      the bytes of `IN;` and of chains: for each a PU to its start and a PD to each further point; linesOf: the lines that they draw (hpgl, Form)
 --   readOf        what the table's reader gives for bytes, with room for so many lines; `complete`: it took all of them (hpgl, Reading)
 --   startsAt      how often a plotter point is a line's start; endsAt: an end (closed_cuts, Closed)
@@ -21,7 +22,7 @@ use Rattle.svg.specs.Language.{Command as Svg}
 use Rattle.svg.specs.Meaning.{meaning}
 use Rattle.pattern.specs.Meaning.{Subpath, nothing, meant}
 use Rattle.outlines.specs.Flattened.{flattened}
-use Rattle.closed_cuts.specs.Closed.{rounded, startsAt, endsAt}
+use Rattle.closed_cuts.specs.Closed.{rounded, AllTaken, startsAt, endsAt}
 use Rattle.hpgl.specs.Form.{Line, Chain, fileText, linesOf, AllClosed, Fits, rangeOf}
 use Rattle.hpgl.specs.Reading.{complete, answer, readOf}
 use Rattle.hpgl.specs.declared.Point.{Point}
@@ -49,6 +50,8 @@ pub record Promise (text six : List ℕ) (table : Table) (lent bytes : List ℕ)
   -- subpaths that the text means, in order: nothing dropped, nothing invented.
   pub lines : linesOf chains ≡ cutLines six commands
   pub read-back : (room : ℕ) → length (cutLines six commands) ≤ room → readOf (rangeOf table) room (fileText chains) ≡ answer (cutLines six commands) complete
+  -- Each event of that flattening is a line, and its four coordinates are numbers that, rounded, are within the table: no NaN and no infinity was taken for 0.
+  pub numbers : AllTaken (rangeOf table) (flattened six (subpathsOf commands))
   -- (c) Every plotter point is a line's start as often as a line's end, and every chain ends where it began.
   pub balanced : (p : Point) → startsAt p (linesOf chains) ≡ endsAt p (linesOf chains)
   pub closed : AllClosed chains

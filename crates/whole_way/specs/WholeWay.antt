@@ -14,11 +14,12 @@ use Rattle.imported.specs.Lines.{meaning-finishes}
 use Rattle.outlines.specs.Placing.{left, subpaths, Finished, drawnTags, drawnPoints, tagsFrom}
 use Rattle.outlines.specs.Flattened.{flattened}
 use Rattle.outlines.specs.LinesDrawn.{lines-drawn}
-use Rattle.closed_cuts.specs.Closed.{rounded}
-use Rattle.closed_cuts.specs.Chains.{lines-are, chains-close}
+use Rattle.closed_cuts.specs.Closed.{segmentsFrom, rounded, AllTaken}
+use Rattle.closed_cuts.specs.Chains.{lines-are, lines-taken, chains-close}
 use Rattle.closed_cuts.specs.Balance.{closed-balance}
 use Rattle.own_lists.specs.Fills.{listOf}
 use Rattle.watertight.specs.Fill.{Call, Accepted, outcome, linesOf}
+use Rattle.watertight.specs.Fill as fills
 use Rattle.hpgl.specs.Form.{Line, Chain, fileText, AllClosed, Range, Inside, AllInside, Fits, along, rangeOf}
 use Rattle.hpgl.specs.Form.{linesOf as chainLines}
 use Rattle.hpgl.specs.Reading.{complete, answer, readOf}
@@ -89,16 +90,13 @@ module _ (tags points : List ℕ) (cs : List Command) (e : Finished (left tags p
   its-bytes = exportOf (rangeOf table) 0 room list .bytes
 
   -- what the call draws is the flattening of the subpaths that the commands mean
-  lines-of-call : roundedLines 0 list ≡ rounded (flattened six (subpaths tags points cs))
-  lines-of-call =
+  drawn-lines : linesOf c (segmentsFrom c 0 (fills.tags c) 0) ≡ flattened six (subpaths tags points cs)
+  drawn-lines =
       let few = k .few in
       let sheet = drawn.sheet tags points cs e six scene prefixes lines six-long few in
-      lines-are c a 0
-      ∙ ap (λ (is : List ℕ). rounded (linesOf c is)) (drawn.segments-are tags points cs e six scene prefixes lines six-long few a ∙ ap (tagsFrom 2) (drawn.count tags points cs e six scene prefixes lines six-long))
-      ∙ ap rounded
-      (lines-drawn tags points cs e c 2 (drawn.placed tags points cs e six scene prefixes lines six-long few) a (sheets.fresh sheet)
-      (sheets.fill sheet) (drawn.in-call tags points cs e six scene prefixes lines six-long few)
-      ∙ ap (λ (z : List ℕ). flattened z (subpaths tags points cs)) (sheets.its-transform sheet))
+      ap (linesOf c) (drawn.segments-are tags points cs e six scene prefixes lines six-long few a ∙ ap (tagsFrom 2) (drawn.count tags points cs e six scene prefixes lines six-long))
+      ∙ lines-drawn tags points cs e c 2 (drawn.placed tags points cs e six scene prefixes lines six-long few) a (sheets.fresh sheet) (sheets.fill sheet) (drawn.in-call tags points cs e six scene prefixes lines six-long few)
+      ∙ ap (λ (z : List ℕ). flattened z (subpaths tags points cs)) (sheets.its-transform sheet)
 
   the-chains : (ds : List Chain) × (its-bytes ≡ fileText ds) × (roundedLines 0 list ≡ chainLines ds) × AllClosed ds
   the-chains =
@@ -108,7 +106,8 @@ module _ (tags points : List ℕ) (cs : List Command) (e : Finished (left tags p
   pub promised : (file : List ℕ) → file ≡ its-bytes ++ drop n bytes → (text : List ℕ) (commands : List Svg) → Means text commands → subpaths tags points cs ≡ subpathsOf commands → Promise text six table bytes file n
   promised file is text commands m s =
       let d = the-chains in
-      let meant-lines : roundedLines 0 list ≡ cutLines six commands = lines-of-call ∙ ap (λ (ss : List Subpath). rounded (flattened six ss)) s in
+      let meant-events : linesOf c (segmentsFrom c 0 (fills.tags c) 0) ≡ flattened six (subpathsOf commands) = drawn-lines ∙ ap (flattened six) s in
+      let meant-lines : roundedLines 0 list ≡ cutLines six commands = lines-are c a 0 ∙ ap rounded meant-events in
       let f = export-form (rangeOf table) 0 room list (look-written table 0 list n room looked) in
       let ends = subst (AllEnds (rangeOf table)) (sym (f .2) ∙ d .2) (fits-ends (rangeOf table) (f .0) (f .3)) in
       record {
@@ -123,6 +122,7 @@ module _ (tags points : List ℕ) (cs : List Command) (e : Finished (left tags p
             ap (readOf (rangeOf table) r) (sym (d .1))
             ∙ look-reads table 0 list n room looked r (subst (λ (ls : List Line). length ls ≤ r) (sym meant-lines) l)
             ∙ ap (λ (ls : List Line). answer ls complete) meant-lines;
+        numbers = subst (AllTaken (rangeOf table)) meant-events (lines-taken (rangeOf table) c a 0 room (look-written table 0 list n room looked));
         balanced = closed-balance (d .0) (d .3);
         closed = d .3;
         within = ends-fit (rangeOf table) (d .0) ends;
