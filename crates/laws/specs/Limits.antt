@@ -1,0 +1,265 @@
+-- A number held to a limit, by limits that are numbers too: an expression is held to the same expression of its parts' limits, with plus for each minus.
+-- Assumes nothing.
+use mathlib.Core.Path.{_≡_, refl, sym, ap, _∙_, subst}
+use mathlib.Core.Bool.{Bool, true, false, not, _&&_, _||_, cond}
+use Prim.Native.Nat.{ℕ, zero, suc, _+_, _-_, _*_, _^_, _≤_, _<_, zero-le}
+use native.Mathlib.Nat.{le-refl, le-trans, le-of-eq, mul-assoc, mul-comm, mul-left-comm, mul-le-mul, mul-pos, zero-lt-suc, zero-mul}
+use native.Mathlib.Omega.{arith}
+use lib.IntN.{ℤ, pos}
+use lib.Dec.{T, ltb, eqb, eqb·suc-zero}
+use lib.Ieee.{Float, nan, inf, fin, binary32, up, down, unlike, round, neg, add, sub, mul, div, lt, le}
+use lib.Ieee.Fits.{up-pos, down-pos, and-l, and-r}
+use lib.Ieee.Order.{le-of-values}
+use lib.Ieee.Positive.{positive, above, above-of-le, le-trans-positive}
+use borrow.Author.Tests.{lt-ltb, le-ltb}
+use Rattle.laws.specs.Binary32.{_⊕_, _⊖_, _⊗_, _⊘_, whole}
+use Rattle.laws.specs.Compare.{underZero}
+use Rattle.laws.specs.NotFinite.{unsigned, unsigned-round}
+use Rattle.laws.specs.Size.{AtMost, widened, lt-or-eq, zero-at-most, neg-at-most, round-at-most, mul-at-most, add-at-most}
+
+-- a limit that is not finite holds nothing, and none has a minus sign
+abbrev pub Held : Float → Float → Type 0
+Held nan x = T true
+Held (inf true) x = ⊥
+Held (inf false) x = T true
+Held (fin true p k) x = ⊥
+Held (fin false p k) x = AtMost (p * up k) (down k) x
+
+-- x is finite, and its size is at most the limit, where that is finite
+pub record Small (limit x : Float) : Type 0 where
+  pub held : Held limit x
+
+-- x is at least the limit, which is finite and above zero
+pub record AtLeast (limit x : Float) : Type 0 where
+  pub above : T (positive limit)
+  pub reached : T (le limit x)
+
+-- ---- the limits of an expression
+by-limit : (v x : Float) → T (unsigned v) → ((p : ℕ) (k : ℤ) → v ≡ fin false p k → AtMost (p * up k) (down k) x) → Held v x
+by-limit nan x u h = tt
+by-limit (inf true) x u h = absurd u
+by-limit (inf false) x u h = tt
+by-limit (fin true p k) x u h = absurd u
+by-limit (fin false p k) x u h = h p k refl
+
+no-limit : (b : Bool) (x : Float) → Held (cond b nan (inf false)) x
+no-limit true x = tt
+no-limit false x = tt
+
+times-held : (a b x y : Float) → Held a x → Held b y → Held (a ⊗ b) (x ⊗ y)
+unfolding mul
+times-held nan b x y h l = tt
+times-held (inf true) b x y h l = absurd h
+times-held (inf false) nan x y h l = tt
+times-held (inf false) (inf true) x y h l = absurd l
+times-held (inf false) (inf false) x y h l = tt
+times-held (inf false) (fin true q j) x y h l = absurd l
+times-held (inf false) (fin false q j) x y h l = no-limit (eqb q 0) (x ⊗ y)
+times-held (fin true p i) b x y h l = absurd h
+times-held (fin false p i) nan x y h l = tt
+times-held (fin false p i) (inf true) x y h l = absurd l
+times-held (fin false p i) (inf false) x y h l = no-limit (eqb p 0) (x ⊗ y)
+times-held (fin false p i) (fin true q j) x y h l = absurd l
+times-held (fin false p i) (fin false q j) x y h l =
+    let X = p * up i * (q * up j) in
+    let Y = down i * down j in
+    by-limit (round binary32 false X Y) (x ⊗ y) (unsigned-round binary32 X Y)
+    (λ (r : ℕ) (k : ℤ) (e : round binary32 false X Y ≡ fin false r k). mul-at-most x y (p * up i) (down i) (q * up j) (down j) r k (down-pos i) (down-pos j) h l e)
+
+pub times : {a b x y : Float} → Small a x → Small b y → Small (a ⊗ b) (x ⊗ y)
+times {a} {b} {x} {y} h l = record { held = times-held a b x y (h .held) (l .held) }
+
+plus-held : (a b x y : Float) → Held a x → Held b y → Held (a ⊕ b) (x ⊕ y)
+unfolding add
+plus-held nan b x y h l = tt
+plus-held (inf true) b x y h l = absurd h
+plus-held (inf false) nan x y h l = tt
+plus-held (inf false) (inf true) x y h l = absurd l
+plus-held (inf false) (inf false) x y h l = tt
+plus-held (inf false) (fin t q j) x y h l = tt
+plus-held (fin true p i) b x y h l = absurd h
+plus-held (fin false p i) nan x y h l = tt
+plus-held (fin false p i) (inf true) x y h l = absurd l
+plus-held (fin false p i) (inf false) x y h l = tt
+plus-held (fin false p i) (fin true q j) x y h l = absurd l
+plus-held (fin false p i) (fin false q j) x y h l =
+    let X = p * up i * down j + q * up j * down i in
+    let Y = down i * down j in
+    by-limit (round binary32 false X Y) (x ⊕ y) (unsigned-round binary32 X Y)
+    (λ (r : ℕ) (k : ℤ) (e : round binary32 false X Y ≡ fin false r k). add-at-most x y (p * up i) (down i) (q * up j) (down j) r k (down-pos i) (down-pos j) h l e)
+
+pub plus : {a b x y : Float} → Small a x → Small b y → Small (a ⊕ b) (x ⊕ y)
+plus {a} {b} {x} {y} h l = record { held = plus-held a b x y (h .held) (l .held) }
+
+turned-held : (a x : Float) → Held a x → Held a (neg x)
+turned-held nan x h = tt
+turned-held (inf true) x h = absurd h
+turned-held (inf false) x h = tt
+turned-held (fin true p k) x h = absurd h
+turned-held (fin false p k) x h = neg-at-most x (p * up k) (down k) h
+
+-- a number with no minus sign is its own limit
+own-held : (c : Float) → T (unsigned c) → Held c c
+own-held nan u = tt
+own-held (inf true) u = absurd u
+own-held (inf false) u = tt
+own-held (fin true p k) u = absurd u
+own-held (fin false p k) u = le-refl (p * up k * down k)
+
+pub own : (c : Float) → T (unsigned c) → Small c c
+own c u = record { held = own-held c u }
+
+pub turned : {a x : Float} → Small a x → Small a (neg x)
+turned {a} {x} h = record { held = turned-held a x (h .held) }
+
+pub minus : {a b x y : Float} → Small a x → Small b y → Small (a ⊕ b) (x ⊖ y)
+unfolding sub
+minus h l = plus h (turned l)
+
+-- m / e ≤ p / i and q / j ≤ n / d
+quotient-cross : (m e p i q j n d : ℕ) → m * i ≤ p * e → q * d ≤ n * j → m * d * (q * i) ≤ p * j * (n * e)
+quotient-cross m e p i q j n d h l =
+    le-trans (le-of-eq (simp (mul-assoc, mul-comm, mul-left-comm))) (le-trans (mul-le-mul h l) (le-of-eq (simp (mul-assoc, mul-comm, mul-left-comm))))
+
+-- a divisor that is no zero
+pub div-is : (s : Bool) (m : ℕ) (e : ℤ) (t : Bool) (n : ℕ) (d : ℤ) → fin s m e ⊘ fin t (suc n) d ≡ round binary32 (unlike s t) (m * up e * down d) (suc n * up d * down e)
+unfolding div
+div-is s m e t n d =
+    ap (λ (b : Bool). cond b (cond (eqb m 0) nan (inf (unlike s t))) (round binary32 (unlike s t) (m * up e * down d) (suc n * up d * down e))) (eqb·suc-zero n)
+
+over-held : (x y : Float) (p : ℕ) (i : ℤ) (q : ℕ) (j : ℤ) → 0 < q → T (above y) → T (le (fin false q j) y) → AtMost (p * up i) (down i) x
+    → Held (round binary32 false (p * up i * down j) (q * up j * down i)) (x ⊘ y)
+unfolding div le
+over-held nan y p i q j Q a l h = absurd h
+over-held (inf s) y p i q j Q a l h = absurd h
+over-held (fin s m e) nan p i q j Q a l h = absurd a
+over-held (fin s m e) (inf t) p i q j Q a l h =
+    let X = p * up i * down j in
+    let Y = q * up j * down i in
+    by-limit (round binary32 false X Y) (fin (unlike s t) 0 (pos 0)) (unsigned-round binary32 X Y) (λ (r : ℕ) (k : ℤ) (e : round binary32 false X Y ≡ fin false r k). zero-at-most (unlike s t) (pos 0) (r * up k) (down k))
+over-held (fin s m e) (fin true n d) p i q j Q a l h = absurd a
+over-held (fin s m e) (fin false zero d) p i q j Q a l h = absurd a
+over-held (fin s m e) (fin false (suc n) d) p i q j Q a l h =
+    let X = p * up i * down j in
+    let Y = q * up j * down i in
+    subst (λ (v : Float). Held (round binary32 false X Y) v) (sym (div-is s m e false n d))
+    (by-limit (round binary32 false X Y) (round binary32 (unlike s false) (m * up e * down d) (suc n * up d * down e)) (unsigned-round binary32 X Y)
+    (λ (r : ℕ) (k : ℤ) (g : round binary32 false X Y ≡ fin false r k). round-at-most (unlike s false) (m * up e * down d) (suc n * up d * down e) X Y r k
+    (mul-pos (mul-pos (zero-lt-suc n) (up-pos d)) (down-pos e)) (mul-pos (mul-pos Q (up-pos j)) (down-pos i))
+    (quotient-cross (m * up e) (down e) (p * up i) (down i) (q * up j) (down j) (suc n * up d) (down d) h (lt-or-eq (q * up j * down d) (suc n * up d * down j) l)) g))
+
+quotient-held : (a b x y : Float) → T (positive b) → T (le b y) → Held a x → Held (a ⊘ b) (x ⊘ y)
+unfolding div
+quotient-held nan b x y B l h = tt
+quotient-held (inf true) b x y B l h = absurd h
+quotient-held (inf false) nan x y B l h = absurd B
+quotient-held (inf false) (inf t) x y B l h = absurd B
+quotient-held (inf false) (fin true q j) x y B l h = absurd B
+quotient-held (inf false) (fin false q j) x y B l h = tt
+quotient-held (fin true p i) b x y B l h = absurd h
+quotient-held (fin false p i) nan x y B l h = absurd B
+quotient-held (fin false p i) (inf t) x y B l h = absurd B
+quotient-held (fin false p i) (fin true q j) x y B l h = absurd B
+quotient-held (fin false p i) (fin false zero j) x y B l h = absurd B
+quotient-held (fin false p i) (fin false (suc q) j) x y B l h =
+    subst (λ (v : Float). Held v (x ⊘ y)) (sym (div-is false p i false q j)) (over-held x y p i (suc q) j (zero-lt-suc q) (above-of-le (fin false (suc q) j) y B l) l h)
+
+pub over : {a b x y : Float} → Small a x → AtLeast b y → Small (a ⊘ b) (x ⊘ y)
+over {a} {b} {x} {y} h l = record { held = quotient-held a b x y (l .above) (l .reached) (h .held) }
+
+-- ---- a larger limit
+wider-held : (a b x : Float) → T (le a b) → T (unsigned b) → Held a x → Held b x
+unfolding le
+wider-held nan b x l u h = absurd l
+wider-held (inf true) b x l u h = absurd h
+wider-held (inf false) nan x l u h = absurd l
+wider-held (inf false) (inf true) x l u h = absurd l
+wider-held (inf false) (inf false) x l u h = tt
+wider-held (inf false) (fin t q j) x l u h = absurd l
+wider-held (fin true p i) b x l u h = absurd h
+wider-held (fin false p i) nan x l u h = absurd l
+wider-held (fin false p i) (inf true) x l u h = absurd l
+wider-held (fin false p i) (inf false) x l u h = tt
+wider-held (fin false p i) (fin true q j) x l u h = absurd u
+wider-held (fin false p i) (fin false q j) x l u h = widened x (p * up i) (down i) (q * up j) (down j) (down-pos i) (lt-or-eq (p * up i * down j) (q * up j * down i) l) h
+
+-- a -0 is not below +0, and is no limit
+pub wider : {a x : Float} (b : Float) → T (le a b && unsigned b) → Small a x → Small b x
+wider {a} {x} b l h = record { held = wider-held a b x (and-l (le a b) (unsigned b) l) (and-r (le a b) (unsigned b) l) (h .held) }
+
+-- finite, with no minus sign
+abbrev pub plain : Float → Bool
+plain nan = false
+plain (inf s) = false
+plain (fin s m e) = not s
+
+minus-under : (a b : ℕ) → T (ltb 0 (a + b) || (eqb a b && eqb a 0))
+minus-under zero zero = tt
+minus-under zero (suc b) = rw (lt-ltb 0 (0 + suc b) (omega arith)) tt
+minus-under (suc a) b = rw (lt-ltb 0 (suc a + b) (omega arith)) tt
+
+at-most-le : (x : Float) (q : ℕ) (j : ℤ) → AtMost (q * up j) (down j) x → T (le x (fin false q j))
+unfolding le
+at-most-le nan q j h = absurd h
+at-most-le (inf s) q j h = absurd h
+at-most-le (fin true m e) q j h = minus-under (m * up e * down j) (q * up j * down e)
+at-most-le (fin false m e) q j h = le-of-values (fin false m e) (fin false q j) (m * up e) (down e) (q * up j) (down j) (down-pos e) (down-pos j) (refl, refl) (refl, refl) h
+
+held-le : (c x : Float) → T (plain c) → Held c x → T (le x c)
+held-le nan x f h = absurd f
+held-le (inf s) x f h = absurd f
+held-le (fin true q j) x f h = absurd f
+held-le (fin false q j) x f h = at-most-le x q j h
+
+plain-unsigned : (c : Float) → T (plain c) → T (unsigned c)
+plain-unsigned nan f = tt
+plain-unsigned (inf s) f = absurd f
+plain-unsigned (fin s m e) f = f
+
+-- under an infinite limit x may be a NaN, which is below nothing
+pub most : {a x : Float} (c : Float) → T (le a c && plain c) → Small a x → T (le x c)
+most {a} {x} c l h = let f = and-r (le a c) (plain c) l in held-le c x f (wider-held a c x (and-l (le a c) (plain c) l) (plain-unsigned c f) (h .held))
+
+-- ---- what is at least a limit
+over-zero : {a x : Float} → AtLeast a x → T (above x)
+over-zero {a} {x} h = above-of-le a x (h .above) (h .reached)
+
+no-minus : (x : Float) → T (above x) → T (not (underZero x))
+no-minus nan h = absurd h
+no-minus (inf s) h = h
+no-minus (fin true m e) h = absurd h
+no-minus (fin false zero e) h = tt
+no-minus (fin false (suc m) e) h = tt
+
+pub not-under : {a x : Float} → AtLeast a x → T (not (underZero x))
+not-under {a} {x} h = no-minus x (over-zero h)
+
+no-below : (m : ℕ) (e : ℤ) → ltb (m * up e * 1) (0 * 1 * down e) ≡ false
+no-below m e = le-ltb (m * up e * 1) (0 * 1 * down e) (le-trans (le-of-eq (zero-mul (down e))) zero-le)
+
+not-below : (x : Float) → T (above x) → lt x (whole 0) ≡ false
+unfolding lt round
+not-below nan h = absurd h
+not-below (inf true) h = absurd h
+not-below (inf false) h = refl
+not-below (fin true m e) h = absurd h
+not-below (fin false m e) h = no-below m e
+
+pub not-negative : {a x : Float} → AtLeast a x → lt x (whole 0) ≡ false
+not-negative {a} {x} h = not-below x (over-zero h)
+
+beyond-top : (v : Float) → T (positive v) → T (le v (inf false))
+unfolding le
+beyond-top nan p = absurd p
+beyond-top (inf s) p = absurd p
+beyond-top (fin s m e) p = tt
+
+lowered-le : (b a x : Float) → T (positive b) → T (positive a) → T (above x) → T (le b a) → T (le a x) → T (le b x)
+lowered-le b a nan p q h l k = absurd h
+lowered-le b a (inf true) p q h l k = absurd h
+lowered-le b a (inf false) p q h l k = beyond-top b p
+lowered-le b a (fin true m e) p q h l k = absurd h
+lowered-le b a (fin false m e) p q h l k = le-trans-positive b a (fin false m e) p q h l k
+
+pub lowered : {a x : Float} (b : Float) → T (positive b) → T (le b a) → AtLeast a x → AtLeast b x
+lowered {a} {x} b p l h = record { above = p; reached = lowered-le b a x p (h .above) (over-zero h) l (h .reached) }
