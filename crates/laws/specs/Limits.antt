@@ -3,17 +3,19 @@
 use mathlib.Core.Path.{_≡_, refl, sym, ap, _∙_, subst}
 use mathlib.Core.Bool.{Bool, true, false, not, _&&_, _||_, cond}
 use Prim.Native.Nat.{ℕ, zero, suc, _+_, _-_, _*_, _^_, _≤_, _<_, zero-le}
-use native.Mathlib.Nat.{le-refl, le-trans, le-of-eq, mul-assoc, mul-comm, mul-left-comm, mul-le-mul, mul-pos, zero-lt-suc, zero-mul}
+use native.Mathlib.Nat.{le-refl, le-trans, le-of-eq, mul-assoc, mul-comm, mul-left-comm, mul-le-mul, mul-le-mul-right, le-of-mul-le-mul-right, mul-sub, mul-pos, zero-lt-suc, zero-mul}
 use native.Mathlib.Omega.{arith}
 use lib.IntN.{ℤ, pos}
-use lib.Dec.{T, ltb, eqb, eqb·suc-zero}
-use lib.Ieee.{Float, nan, inf, fin, binary32, up, down, unlike, round, neg, add, sub, mul, div, lt, le}
+use lib.Dec.{T, ltb, eqb, nltb→le, eqb·suc-zero}
+use lib.Ieee.{Float, nan, inf, fin, binary32, up, down, unlike, round, sum, neg, add, sub, mul, div, lt, le}
 use lib.Ieee.Fits.{up-pos, down-pos, and-l, and-r}
-use lib.Ieee.Order.{le-of-values}
-use lib.Ieee.Positive.{positive, above, above-of-le, le-trans-positive}
+use lib.Ieee.Order.{le-of-values, round-mono}
+use lib.Ieee.Positive.{positive, above, above-of-le, le-trans-positive, mul-mono}
 use borrow.Author.Tests.{lt-ltb, le-ltb}
 use Rattle.laws.specs.Binary32.{_⊕_, _⊖_, _⊗_, _⊘_, whole}
 use Rattle.laws.specs.Compare.{underZero}
+use Rattle.laws.specs.Neg.{round-neg}
+use Rattle.laws.specs.Same.{add-swap, mul-swap}
 use Rattle.laws.specs.NotFinite.{unsigned, unsigned-round}
 use Rattle.laws.specs.Size.{AtMost, widened, lt-or-eq, zero-at-most, neg-at-most, round-at-most, mul-at-most, add-at-most}
 
@@ -263,3 +265,121 @@ lowered-le b a (fin false m e) p q h l k = le-trans-positive b a (fin false m e)
 
 pub lowered : {a x : Float} (b : Float) → T (positive b) → T (le b a) → AtLeast a x → AtLeast b x
 lowered {a} {x} b p l h = record { above = p; reached = lowered-le b a x p (h .above) (over-zero h) l (h .reached) }
+
+-- ---- a sum, a difference and a product that are at least a limit
+turned-down : (v : Float) → T (unsigned v) → T (positive (neg v)) → ⊥
+unfolding neg
+turned-down nan u p = p
+turned-down (inf s) u p = p
+turned-down (fin true m e) u p = u
+turned-down (fin false m e) u p = p
+
+difference-is : (A B C : ℕ) → B ≤ A → sum binary32 false A true B C ≡ round binary32 false (A - B) C
+unfolding sum
+difference-is A B C h = rw (le-ltb A B h)
+
+in-order : (A B C : ℕ) → T (positive (sum binary32 false A true B C)) → B ≤ A
+unfolding sum
+in-order A B C p = go (ltb A B) (nltb→le A B) p
+  where
+    go : (b : Bool) → (T (not b) → B ≤ A) → T (positive (cond b (round binary32 true (B - A) C) (round binary32 false (A - B) C))) → B ≤ A
+    go true h p = absurd (turned-down (round binary32 false (B - A) C) (unsigned-round binary32 (B - A) C) (subst (λ (v : Float). T (positive v)) (round-neg binary32 false (B - A) C) p))
+    go false h p = h tt
+
+sub-sub : (a b x y : ℕ) → a ≤ x → y ≤ b → a - b ≤ x - y
+sub-sub a b x y h l = omega arith
+
+sub-cross : (A B C X Y D : ℕ) → A * D ≤ X * C → Y * C ≤ B * D → (A - B) * D ≤ (X - Y) * C
+sub-cross A B C X Y D h l =
+    le-trans (le-of-eq (mul-comm (A - B) D ∙ mul-sub D A B ∙ ap (λ (z : ℕ). z - D * B) (mul-comm D A) ∙ ap (λ (z : ℕ). A * D - z) (mul-comm D B)))
+    (le-trans (sub-sub (A * D) (B * D) (X * C) (Y * C) h l)
+    (le-of-eq (sym (mul-comm (X - Y) C ∙ mul-sub C X Y ∙ ap (λ (z : ℕ). z - C * Y) (mul-comm C X) ∙ ap (λ (z : ℕ). X * C - z) (mul-comm C Y)))))
+
+less : (x y : ℕ) → x - y ≤ x + y
+less x y = omega arith
+
+sum-is : (X Y D : ℕ) → sum binary32 false X false Y D ≡ round binary32 false (X + Y) D
+unfolding sum
+sum-is X Y D = refl
+
+sum-reaches : (t : Bool) (A B C X Y D : ℕ) → 0 < C → 0 < D → T (positive (sum binary32 false A true B C)) → A * D ≤ X * C → Y * C ≤ B * D
+    → T (le (sum binary32 false A true B C) (sum binary32 false X t Y D))
+sum-reaches t A B C X Y D P Q p h l =
+    let b = in-order A B C p in
+    rw (difference-is A B C b) (go t)
+  where
+    go : (t : Bool) → T (le (round binary32 false (A - B) C) (sum binary32 false X t Y D))
+    go true = rw (difference-is X Y D (le-of-mul-le-mul-right (le-trans l (le-trans (mul-le-mul-right D (in-order A B C p)) h)) P)) (round-mono binary32 (A - B) C (X - Y) D P Q (sub-cross A B C X Y D h l))
+    go false = rw (sum-is X Y D) (round-mono binary32 (A - B) C (X + Y) D P Q (le-trans (sub-cross A B C X Y D h l) (mul-le-mul-right C (less X Y))))
+
+-- p / i ≤ m / e, and n / d ≤ q / j
+far-cross : (p i m e j d : ℕ) → p * e ≤ m * i → p * j * (e * d) ≤ m * d * (i * j)
+far-cross p i m e j d h = le-trans (le-of-eq (simp (mul-assoc, mul-comm, mul-left-comm))) (le-trans (mul-le-mul-right (j * d) h) (le-of-eq (simp (mul-assoc, mul-comm, mul-left-comm))))
+
+near-cross : (n d q j e i : ℕ) → n * j ≤ q * d → n * e * (i * j) ≤ q * i * (e * d)
+near-cross n d q j e i h = le-trans (le-of-eq (simp (mul-assoc, mul-comm, mul-left-comm))) (le-trans (mul-le-mul-right (e * i) h) (le-of-eq (simp (mul-assoc, mul-comm, mul-left-comm))))
+
+sum-at : (p : ℕ) (i : ℤ) (q : ℕ) (j : ℤ) (x y : Float) → T (positive (fin false p i ⊖ fin false q j)) → T (above x) → T (le (fin false p i) x) → AtMost (q * up j) (down j) y
+    → T (le (fin false p i ⊖ fin false q j) (x ⊕ y))
+unfolding sub le
+sum-at p i q j x nan P a l h = absurd h
+sum-at p i q j x (inf t) P a l h = absurd h
+sum-at p i q j nan (fin t n d) P a l h = absurd a
+sum-at p i q j (inf true) (fin t n d) P a l h = absurd a
+sum-at p i q j (inf false) (fin t n d) P a l h = beyond-top (fin false p i ⊖ fin false q j) P
+sum-at p i q j (fin true m e) (fin t n d) P a l h = absurd a
+sum-at p i q j (fin false m e) (fin t n d) P a l h =
+    sum-reaches t (p * up i * down j) (q * up j * down i) (down i * down j) (m * up e * down d) (n * up d * down e) (down e * down d) (mul-pos (down-pos i) (down-pos j)) (mul-pos (down-pos e) (down-pos d)) P
+    (far-cross (p * up i) (down i) (m * up e) (down e) (down j) (down d) (lt-or-eq (p * up i * down e) (m * up e * down i) l))
+    (near-cross (n * up d) (down d) (q * up j) (down j) (down e) (down i) h)
+
+least-at : (a b x y : Float) → T (positive (a ⊖ b)) → T (positive a) → T (above x) → T (le a x) → Held b y → T (le (a ⊖ b) (x ⊕ y))
+least-at nan b x y P p a l h = absurd p
+least-at (inf s) b x y P p a l h = absurd p
+least-at (fin true m i) b x y P p a l h = absurd p
+least-at (fin false m i) nan x y P p a l h = absurd (unfold sub in P)
+least-at (fin false m i) (inf true) x y P p a l h = absurd h
+least-at (fin false m i) (inf false) x y P p a l h = absurd (unfold sub in P)
+least-at (fin false m i) (fin true q j) x y P p a l h = absurd h
+least-at (fin false m i) (fin false q j) x y P p a l h = sum-at m i q j x y P a l h
+
+pub least-sum : {a b x y : Float} → T (positive (a ⊖ b)) → AtLeast a x → Small b y → AtLeast (a ⊖ b) (x ⊕ y)
+least-sum {a} {b} {x} {y} p h l = record { above = p; reached = least-at a b x y p (h .above) (over-zero h) (h .reached) (l .held) }
+
+pub sum-least : {a b x y : Float} → T (positive (a ⊖ b)) → AtLeast a x → Small b y → AtLeast (a ⊖ b) (y ⊕ x)
+sum-least {a} {b} {x} {y} p h l = subst (λ (v : Float). AtLeast (a ⊖ b) v) (add-swap binary32 x y) (least-sum p h l)
+
+less-is : (x y : Float) → x ⊕ neg y ≡ x ⊖ y
+unfolding sub
+less-is x y = refl
+
+pub least-difference : {a b x y : Float} → T (positive (a ⊖ b)) → AtLeast a x → Small b y → AtLeast (a ⊖ b) (x ⊖ y)
+least-difference {a} {b} {x} {y} p h l = subst (λ (v : Float). AtLeast (a ⊖ b) v) (less-is x y) (least-sum p h (turned l))
+
+tops : inf false ⊗ inf false ≡ inf false
+unfolding mul
+tops = refl
+
+top-times : (n : ℕ) (d : ℤ) → inf false ⊗ fin false (suc n) d ≡ inf false
+unfolding mul
+top-times n d = ap (λ (b : Bool). cond b nan (inf false)) (eqb·suc-zero n)
+
+product-at : (a b x y : Float) → T (positive (a ⊗ b)) → T (positive a) → T (positive b) → T (above x) → T (above y) → T (le a x) → T (le b y) → T (le (a ⊗ b) (x ⊗ y))
+product-at a b nan y P p q f g l k = absurd f
+product-at a b (inf true) y P p q f g l k = absurd f
+product-at a b (inf false) nan P p q f g l k = absurd g
+product-at a b (inf false) (inf true) P p q f g l k = absurd g
+product-at a b (inf false) (inf false) P p q f g l k = subst (λ (v : Float). T (le (a ⊗ b) v)) (sym tops) (beyond-top (a ⊗ b) P)
+product-at a b (inf false) (fin true n d) P p q f g l k = absurd g
+product-at a b (inf false) (fin false zero d) P p q f g l k = absurd g
+product-at a b (inf false) (fin false (suc n) d) P p q f g l k = subst (λ (v : Float). T (le (a ⊗ b) v)) (sym (top-times n d)) (beyond-top (a ⊗ b) P)
+product-at a b (fin true m e) y P p q f g l k = absurd f
+product-at a b (fin false m e) nan P p q f g l k = absurd g
+product-at a b (fin false m e) (inf true) P p q f g l k = absurd g
+product-at a b (fin false zero e) (inf false) P p q f g l k = absurd f
+product-at a b (fin false (suc m) e) (inf false) P p q f g l k = subst (λ (v : Float). T (le (a ⊗ b) v)) (sym (top-times m e) ∙ mul-swap binary32 (inf false) (fin false (suc m) e)) (beyond-top (a ⊗ b) P)
+product-at a b (fin false m e) (fin true n d) P p q f g l k = absurd g
+product-at a b (fin false m e) (fin false n d) P p q f g l k = mul-mono binary32 a (fin false m e) b (fin false n d) p f q g l k
+
+pub least-product : {a b x y : Float} → T (positive (a ⊗ b)) → AtLeast a x → AtLeast b y → AtLeast (a ⊗ b) (x ⊗ y)
+least-product {a} {b} {x} {y} p h l = record { above = p; reached = product-at a b x y p (h .above) (l .above) (over-zero h) (over-zero l) (h .reached) (l .reached) }
