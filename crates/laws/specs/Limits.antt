@@ -3,21 +3,22 @@
 use mathlib.Core.Path.{_≡_, refl, sym, ap, _∙_, subst}
 use mathlib.Core.Bool.{Bool, true, false, not, _&&_, _||_, cond}
 use Prim.Native.Nat.{ℕ, zero, suc, _+_, _-_, _*_, _^_, _≤_, _<_, zero-le}
-use native.Mathlib.Nat.{le-refl, le-trans, le-of-eq, mul-assoc, mul-comm, mul-left-comm, mul-le-mul, mul-le-mul-right, le-of-mul-le-mul-right, mul-sub, mul-pos, zero-lt-suc, zero-mul}
+use native.Mathlib.Nat.{le-refl, le-trans, le-of-eq, le-of-lt, not-le-of-lt, lt-of-not-le, le-of-suc-le-suc, one-mul, mul-one, mul-mul-mul-comm, mul-assoc, mul-comm, mul-left-comm, mul-le-mul, mul-le-mul-right, le-of-mul-le-mul-right, mul-sub, mul-pos, zero-lt-suc, zero-mul}
 use native.Mathlib.Omega.{arith}
 use lib.IntN.{ℤ, pos}
-use lib.Dec.{T, ltb, eqb, nltb→le, eqb·suc-zero}
+use lib.Dec.{T, ltb, eqb, ltb→lt, nltb→le, eqb·suc-zero}
 use lib.Ieee.{Float, nan, inf, fin, binary32, up, down, unlike, round, sum, neg, add, sub, mul, div, lt, le}
 use lib.Ieee.Fits.{up-pos, down-pos, and-l, and-r}
 use lib.Ieee.Order.{le-of-values, round-mono}
-use lib.Ieee.Positive.{positive, above, above-of-le, le-trans-positive, mul-mono}
+use lib.Ieee.Scale.{round-same}
+use lib.Ieee.Positive.{num, den, positive, above, above-of-le, le-trans-positive, mul-mono}
 use borrow.Author.Tests.{lt-ltb, le-ltb}
 use Rattle.laws.specs.Binary32.{_⊕_, _⊖_, _⊗_, _⊘_, whole}
 use Rattle.laws.specs.Compare.{underZero}
 use Rattle.laws.specs.Neg.{round-neg}
 use Rattle.laws.specs.Same.{add-swap, mul-swap}
 use Rattle.laws.specs.NotFinite.{unsigned, unsigned-round}
-use Rattle.laws.specs.Size.{AtMost, widened, lt-or-eq, zero-at-most, neg-at-most, round-at-most, mul-at-most, add-at-most}
+use Rattle.laws.specs.Size.{AtMost, widened, lt-or-eq, zero-at-most, neg-at-most, round-at-most, round-twice, mul-at-most, add-at-most}
 
 -- a limit that is not finite holds nothing, and none has a minus sign
 abbrev pub Held : Float → Float → Type 0
@@ -383,3 +384,69 @@ product-at a b (fin false m e) (fin false n d) P p q f g l k = mul-mono binary32
 
 pub least-product : {a b x y : Float} → T (positive (a ⊗ b)) → AtLeast a x → AtLeast b y → AtLeast (a ⊗ b) (x ⊗ y)
 least-product {a} {b} {x} {y} p h l = record { above = p; reached = product-at a b x y p (h .above) (l .above) (over-zero h) (over-zero l) (h .reached) (l .reached) }
+
+-- ---- quotients by what is above zero
+not-both : (v : Float) → T (unsigned v) → T (le (whole 1) v) → T (lt v (whole 1)) → ⊥
+unfolding le round
+not-both nan u l h = h
+not-both (inf true) u l h = u
+not-both (inf false) u l h = h
+not-both (fin true m e) u l h = u
+not-both (fin false m e) u l h = not-le-of-lt (ltb→lt (m * up e * 1) (1 * 1 * down e) h) (lt-or-eq (1 * 1 * down e) (m * up e * 1) l)
+
+-- a fraction of 1 or more is not rounded below 1
+below-one : (a c : ℕ) → 0 < c → T (lt (round binary32 false a c) (whole 1)) → a ≤ c
+below-one a c C h =
+    le-of-suc-le-suc (lt-of-not-le (λ (g : suc c ≤ a). not-both (round binary32 false a c) (unsigned-round binary32 a c)
+    (round-mono binary32 1 1 a c (zero-lt-suc 0) C (le-trans (le-of-eq (one-mul c)) (le-trans (le-of-lt g) (le-of-eq (sym (mul-one a)))))) h))
+
+no-quotient : (x : Float) → T (lt (nan ⊘ x) (whole 1)) → ⊥
+unfolding div lt
+no-quotient x h = h
+
+top-quotient : (n : ℕ) (d : ℤ) → T (lt (inf false ⊘ fin false n d) (whole 1)) → ⊥
+unfolding div lt
+top-quotient n d h = h
+
+pub quotient-under : (y x : Float) → T (not (underZero y)) → T (positive x) → T (lt (y ⊘ x) (whole 1)) → AtMost (num x) (den x) y
+quotient-under y nan u p h = absurd p
+quotient-under y (inf t) u p h = absurd p
+quotient-under y (fin true n d) u p h = absurd p
+quotient-under y (fin false zero d) u p h = absurd p
+quotient-under nan (fin false (suc n) d) u p h = absurd (no-quotient (fin false (suc n) d) h)
+quotient-under (inf true) (fin false (suc n) d) u p h = absurd u
+quotient-under (inf false) (fin false (suc n) d) u p h = absurd (top-quotient (suc n) d h)
+quotient-under (fin s zero e) (fin false (suc n) d) u p h = zero-at-most s e (suc n * up d) (down d)
+quotient-under (fin true (suc m) e) (fin false (suc n) d) u p h = absurd u
+quotient-under (fin false (suc m) e) (fin false (suc n) d) u p h =
+    below-one (suc m * up e * down d) (suc n * up d * down e) (mul-pos (mul-pos (zero-lt-suc n) (up-pos d)) (down-pos e)) (subst (λ (v : Float). T (lt v (whole 1))) (div-is false (suc m) e false n d) h)
+
+-- 1 / s is rounded to at most 2 / s
+reciprocal : (n : ℕ) (d : ℤ) → T (le (whole 1) (fin false (suc n) d)) → AtMost (down d * 2) (suc n * up d) (whole 1 ⊘ fin false (suc n) d)
+unfolding round le
+reciprocal n d l =
+    let Y = suc n * up d in
+    let r = round-twice (1 * 1 * down d) (Y * 1) (mul-pos (mul-pos (zero-lt-suc n) (up-pos d)) (zero-lt-suc 0)) false (lt-or-eq (1 * 1 * down d) (Y * 1) l) in
+    subst (λ (v : Float). AtMost (down d * 2) Y v) (sym (div-is false 1 (pos 0) false n d))
+    (subst (λ (z : ℕ). AtMost (z * 2) Y (round binary32 false (1 * 1 * down d) (Y * 1))) (one-mul (down d))
+    (subst (λ (z : ℕ). AtMost (1 * 1 * down d * 2) z (round binary32 false (1 * 1 * down d) (Y * 1))) (mul-one Y) r))
+
+times-four : (a b : ℕ) → a * 2 * (b * 2) * 1 ≡ 4 * (b * a)
+times-four a b = mul-one (a * 2 * (b * 2)) ∙ mul-mul-mul-comm a 2 b 2 ∙ mul-comm (a * b) 4 ∙ ap (λ (z : ℕ). 4 * z) (mul-comm a b)
+
+four-is : (a b : ℕ) → 0 < a → 0 < b → round binary32 false (a * 2 * (b * 2)) (b * a) ≡ fin false 1 (pos 2)
+unfolding round
+four-is a b A B = round-same binary32 false (a * 2 * (b * 2)) (b * a) 4 1 (mul-pos B A) (zero-lt-suc 0) (times-four a b)
+
+four-times : (x : Float) (n : ℕ) (d : ℤ) → T (le (whole 1) (fin false (suc n) d)) → AtMost (suc n * up d * 2) (down d) x → Held (whole 4) (x ⊗ (whole 1 ⊘ fin false (suc n) d))
+unfolding round
+four-times x n d l h =
+    let N = mul-pos (zero-lt-suc n) (up-pos d) in
+    mul-at-most x (whole 1 ⊘ fin false (suc n) d) (suc n * up d * 2) (down d) (down d * 2) (suc n * up d) 1 (pos 2) (down-pos d) N h (reciprocal n d l) (four-is (suc n * up d) (down d) N (down-pos d))
+
+pub over-itself : (x s : Float) → T (positive s) → T (le (whole 1) s) → AtMost (num s * 2) (den s) x → Small (whole 4) (x ⊗ (whole 1 ⊘ s))
+over-itself x nan p l h = absurd p
+over-itself x (inf t) p l h = absurd p
+over-itself x (fin true n d) p l h = absurd p
+over-itself x (fin false zero d) p l h = absurd p
+over-itself x (fin false (suc n) d) p l h = record { held = four-times x n d l h }
