@@ -3,11 +3,11 @@
 use mathlib.Core.Path.{_≡_, refl, sym, ap, _∙_, subst}
 use mathlib.Core.Bool.{Bool, true, false, not, _&&_, _||_, cond}
 use Prim.Native.Nat.{ℕ, zero, suc, _+_, _-_, _*_, _^_, _≤_, _<_, zero-le}
-use native.Mathlib.Nat.{le-refl, le-trans, le-of-eq, le-of-lt, not-le-of-lt, lt-of-not-le, le-of-suc-le-suc, one-mul, mul-one, mul-mul-mul-comm, mul-assoc, mul-comm, mul-left-comm, mul-le-mul, mul-le-mul-right, le-of-mul-le-mul-right, mul-sub, mul-pos, zero-lt-suc, zero-mul}
+use native.Mathlib.Nat.{le-refl, le-trans, le-of-eq, le-of-lt, not-le-of-lt, lt-of-not-le, le-of-suc-le-suc, one-mul, mul-one, mul-mul-mul-comm, mul-assoc, mul-comm, mul-left-comm, mul-le-mul, mul-le-mul-right, le-of-mul-le-mul-right, mul-right-comm, mul-lt-mul-of-pos-right, lt-of-mul-lt-mul-right, lt-of-le-of-lt, lt-of-lt-of-le, mul-sub, mul-pos, zero-lt-suc, zero-mul}
 use native.Mathlib.Omega.{arith}
 use lib.IntN.{ℤ, pos}
-use lib.Dec.{T, ltb, eqb, ltb→lt, nltb→le, eqb·suc-zero}
-use lib.Ieee.{Float, nan, inf, fin, binary32, up, down, unlike, round, sum, neg, add, sub, mul, div, lt, le}
+use lib.Dec.{T, ltb, eqb, ltb→lt, lt→ltb, nltb→le, eqb·suc-zero}
+use lib.Ieee.{Float, nan, inf, fin, binary32, up, down, unlike, below, round, sum, neg, add, sub, mul, div, lt, le}
 use lib.Ieee.Fits.{up-pos, down-pos, and-l, and-r}
 use lib.Ieee.Order.{le-of-values, round-mono}
 use lib.Ieee.Scale.{round-same}
@@ -18,7 +18,7 @@ use Rattle.laws.specs.Compare.{underZero}
 use Rattle.laws.specs.Neg.{round-neg}
 use Rattle.laws.specs.Same.{add-swap, mul-swap}
 use Rattle.laws.specs.NotFinite.{unsigned, unsigned-round}
-use Rattle.laws.specs.Size.{AtMost, widened, lt-or-eq, zero-at-most, neg-at-most, round-at-most, round-twice, mul-at-most, add-at-most}
+use Rattle.laws.specs.Size.{AtMost, widened, lt-or-eq, zero-at-most, le-at-most, neg-at-most, round-at-most, round-twice, mul-at-most, add-at-most}
 
 -- a limit that is not finite holds nothing, and none has a minus sign
 abbrev pub Held : Float → Float → Type 0
@@ -223,6 +223,58 @@ plain-unsigned (fin s m e) f = f
 pub most : {a x : Float} (c : Float) → T (le a c && plain c) → Small a x → T (le x c)
 most {a} {x} c l h = let f = and-r (le a c) (plain c) l in held-le c x f (wider-held a c x (and-l (le a c) (plain c) l) (plain-unsigned c f) (h .held))
 
+strict-cross : (m e p i q j : ℕ) → 0 < e → m * i ≤ p * e → p * j < q * i → m * j < q * e
+strict-cross m e p i q j E h l =
+    lt-of-mul-lt-mul-right i
+    (lt-of-le-of-lt (le-trans (le-of-eq (mul-right-comm m j i)) (le-trans (mul-le-mul-right j h) (le-of-eq (mul-right-comm p e j))))
+    (lt-of-lt-of-le (mul-lt-mul-of-pos-right l E) (le-of-eq (mul-right-comm q i e))))
+
+sum-over : (a b c : ℕ) → c < b → 0 < a + b
+sum-over a b c h = omega arith
+
+under-fin : (x : Float) (p : ℕ) (i : ℤ) (q : ℕ) (j : ℤ) → p * up i * down j < q * up j * down i → AtMost (p * up i) (down i) x → T (lt x (fin false q j))
+unfolding lt
+under-fin nan p i q j l h = absurd h
+under-fin (inf s) p i q j l h = absurd h
+under-fin (fin s m e) p i q j l h = go s (strict-cross (m * up e) (down e) (p * up i) (down i) (q * up j) (down j) (down-pos e) h l)
+  where
+    go : (s : Bool) → m * up e * down j < q * up j * down e → T (below s (m * up e * down j) false (q * up j * down e))
+    go true g = lt→ltb 0 (m * up e * down j + q * up j * down e) (sum-over (m * up e * down j) (q * up j * down e) (m * up e * down j) g)
+    go false g = lt→ltb (m * up e * down j) (q * up j * down e) g
+
+under-top : (x : Float) (n d : ℕ) (t : Bool) → T (not t) → AtMost n d x → T (lt x (inf t))
+unfolding lt
+under-top nan n d t l h = absurd h
+under-top (inf s) n d t l h = absurd h
+under-top (fin s m e) n d t l h = l
+
+held-lt : (a c x : Float) → T (lt a c) → Held a x → T (lt x c)
+unfolding lt
+held-lt nan c x l h = absurd l
+held-lt (inf true) c x l h = absurd h
+held-lt (inf false) nan x l h = absurd l
+held-lt (inf false) (inf t) x l h = absurd l
+held-lt (inf false) (fin t q j) x l h = absurd l
+held-lt (fin true p i) c x l h = absurd h
+held-lt (fin false p i) nan x l h = absurd l
+held-lt (fin false p i) (inf t) x l h = under-top x (p * up i) (down i) t l h
+held-lt (fin false p i) (fin true q j) x l h = absurd l
+held-lt (fin false p i) (fin false q j) x l h = under-fin x p i q j (ltb→lt (p * up i * down j) (q * up j * down i) l) h
+
+-- what is below c is finite
+pub under : {a x : Float} (c : Float) → T (lt a c) → Small a x → T (lt x c)
+under {a} {x} c l h = held-lt a c x l (h .held)
+
+le-held : (x c : Float) → T (not (underZero x)) → T (unsigned c) → T (le x c) → Held c x
+le-held x nan u f l = tt
+le-held x (inf true) u f l = absurd f
+le-held x (inf false) u f l = tt
+le-held x (fin true p k) u f l = absurd f
+le-held x (fin false p k) u f l = le-at-most x p k u l
+
+pub compared : (x c : Float) → T (not (underZero x)) → T (unsigned c) → T (le x c) → Small c x
+compared x c u f l = record { held = le-held x c u f l }
+
 -- ---- what is at least a limit
 over-zero : {a x : Float} → AtLeast a x → T (above x)
 over-zero {a} {x} h = above-of-le a x (h .above) (h .reached)
@@ -266,6 +318,20 @@ lowered-le b a (fin false m e) p q h l k = le-trans-positive b a (fin false m e)
 
 pub lowered : {a x : Float} (b : Float) → T (positive b) → T (le b a) → AtLeast a x → AtLeast b x
 lowered {a} {x} b p l h = record { above = p; reached = lowered-le b a x p (h .above) (over-zero h) l (h .reached) }
+
+raised-le : (a x z : Float) → T (positive a) → T (above x) → T (le a x) → T (le x z) → T (le a z)
+unfolding le
+raised-le a nan z p h l k = absurd h
+raised-le a (inf true) z p h l k = absurd h
+raised-le a (inf false) nan p h l k = absurd k
+raised-le a (inf false) (inf true) p h l k = absurd k
+raised-le a (inf false) (inf false) p h l k = l
+raised-le a (inf false) (fin t n d) p h l k = absurd k
+raised-le a (fin true m e) z p h l k = absurd h
+raised-le a (fin false m e) z p h l k = lowered-le a (fin false m e) z p h (above-of-le (fin false m e) z h k) l k
+
+pub raised : {a x z : Float} → T (le x z) → AtLeast a x → AtLeast a z
+raised {a} {x} {z} k h = record { above = h .above; reached = raised-le a x z (h .above) (over-zero h) (h .reached) k }
 
 -- ---- a sum, a difference and a product that are at least a limit
 turned-down : (v : Float) → T (unsigned v) → T (positive (neg v)) → ⊥
