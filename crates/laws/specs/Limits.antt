@@ -2,8 +2,9 @@
 -- Assumes nothing.
 use mathlib.Core.Path.{_≡_, refl, sym, ap, _∙_, subst}
 use mathlib.Core.Bool.{Bool, true, false, not, _&&_, _||_, cond}
-use Prim.Native.Nat.{ℕ, zero, suc, _+_, _-_, _*_, _^_, _≤_, _<_, zero-le}
-use native.Mathlib.Nat.{le-refl, le-trans, le-of-eq, le-of-lt, not-le-of-lt, lt-of-not-le, le-of-suc-le-suc, one-mul, mul-one, mul-mul-mul-comm, mul-assoc, mul-comm, mul-left-comm, mul-le-mul, mul-le-mul-right, le-of-mul-le-mul-right, mul-right-comm, mul-lt-mul-of-pos-right, lt-of-mul-lt-mul-right, lt-of-le-of-lt, lt-of-lt-of-le, mul-sub, mul-pos, zero-lt-suc, zero-mul}
+use Prim.Native.Nat.{ℕ, zero, suc, _+_, _-_, _*_, _≤_, _<_, zero-le}
+use native.Mathlib.Nat.{le-refl, le-trans, le-of-eq, le-of-lt, le-of-suc-le-suc, lt-of-le-of-lt, lt-of-lt-of-le, lt-of-not-le, not-le-of-lt, zero-lt-suc}
+use native.Mathlib.Nat.{one-mul, mul-one, mul-mul-mul-comm, mul-assoc, mul-comm, mul-left-comm, mul-le-mul, mul-le-mul-right, le-of-mul-le-mul-right, mul-right-comm, mul-lt-mul-of-pos-right, lt-of-mul-lt-mul-right, mul-sub, mul-pos, zero-mul}
 use native.Mathlib.Omega.{arith}
 use lib.IntN.{ℤ, pos}
 use lib.Dec.{T, ltb, eqb, ltb→lt, lt→ltb, nltb→le, eqb·suc-zero}
@@ -20,7 +21,7 @@ use Rattle.laws.specs.Same.{add-swap, mul-swap}
 use Rattle.laws.specs.NotFinite.{unsigned, unsigned-round}
 use Rattle.laws.specs.Size.{AtMost, widened, lt-or-eq, zero-at-most, le-at-most, neg-at-most, round-at-most, round-twice, mul-at-most, add-at-most}
 
--- a limit that is not finite holds nothing, and none has a minus sign
+-- a limit that is not finite asks nothing, and no limit has a minus sign
 abbrev pub Held : Float → Float → Type 0
 Held nan x = T true
 Held (inf true) x = ⊥
@@ -125,7 +126,7 @@ quotient-cross m e p i q j n d h l =
     le-trans (le-of-eq (simp (mul-assoc, mul-comm, mul-left-comm))) (le-trans (mul-le-mul h l) (le-of-eq (simp (mul-assoc, mul-comm, mul-left-comm))))
 
 -- a divisor that is no zero
-pub div-is : (s : Bool) (m : ℕ) (e : ℤ) (t : Bool) (n : ℕ) (d : ℤ) → fin s m e ⊘ fin t (suc n) d ≡ round binary32 (unlike s t) (m * up e * down d) (suc n * up d * down e)
+div-is : (s : Bool) (m : ℕ) (e : ℤ) (t : Bool) (n : ℕ) (d : ℤ) → fin s m e ⊘ fin t (suc n) d ≡ round binary32 (unlike s t) (m * up e * down d) (suc n * up d * down e)
 unfolding div
 div-is s m e t n d =
     ap (λ (b : Bool). cond b (cond (eqb m 0) nan (inf (unlike s t))) (round binary32 (unlike s t) (m * up e * down d) (suc n * up d * down e))) (eqb·suc-zero n)
@@ -139,7 +140,8 @@ over-held (fin s m e) nan p i q j Q a l h = absurd a
 over-held (fin s m e) (inf t) p i q j Q a l h =
     let X = p * up i * down j in
     let Y = q * up j * down i in
-    by-limit (round binary32 false X Y) (fin (unlike s t) 0 (pos 0)) (unsigned-round binary32 X Y) (λ (r : ℕ) (k : ℤ) (e : round binary32 false X Y ≡ fin false r k). zero-at-most (unlike s t) (pos 0) (r * up k) (down k))
+    by-limit (round binary32 false X Y) (fin (unlike s t) 0 (pos 0)) (unsigned-round binary32 X Y)
+    (λ (r : ℕ) (k : ℤ) (e : round binary32 false X Y ≡ fin false r k). zero-at-most (unlike s t) (pos 0) (r * up k) (down k))
 over-held (fin s m e) (fin true n d) p i q j Q a l h = absurd a
 over-held (fin s m e) (fin false zero d) p i q j Q a l h = absurd a
 over-held (fin s m e) (fin false (suc n) d) p i q j Q a l h =
@@ -350,7 +352,9 @@ unfolding sum
 in-order A B C p = go (ltb A B) (nltb→le A B) p
   where
     go : (b : Bool) → (T (not b) → B ≤ A) → T (positive (cond b (round binary32 true (B - A) C) (round binary32 false (A - B) C))) → B ≤ A
-    go true h p = absurd (turned-down (round binary32 false (B - A) C) (unsigned-round binary32 (B - A) C) (subst (λ (v : Float). T (positive v)) (round-neg binary32 false (B - A) C) p))
+    go true h p =
+        absurd (turned-down (round binary32 false (B - A) C) (unsigned-round binary32 (B - A) C)
+        (subst (λ (v : Float). T (positive v)) (round-neg binary32 false (B - A) C) p))
     go false h p = h tt
 
 sub-sub : (a b x y : ℕ) → a ≤ x → y ≤ b → a - b ≤ x - y
@@ -376,15 +380,19 @@ sum-reaches t A B C X Y D P Q p h l =
     rw (difference-is A B C b) (go t)
   where
     go : (t : Bool) → T (le (round binary32 false (A - B) C) (sum binary32 false X t Y D))
-    go true = rw (difference-is X Y D (le-of-mul-le-mul-right (le-trans l (le-trans (mul-le-mul-right D (in-order A B C p)) h)) P)) (round-mono binary32 (A - B) C (X - Y) D P Q (sub-cross A B C X Y D h l))
+    go true =
+        rw (difference-is X Y D (le-of-mul-le-mul-right (le-trans l (le-trans (mul-le-mul-right D (in-order A B C p)) h)) P))
+        (round-mono binary32 (A - B) C (X - Y) D P Q (sub-cross A B C X Y D h l))
     go false = rw (sum-is X Y D) (round-mono binary32 (A - B) C (X + Y) D P Q (le-trans (sub-cross A B C X Y D h l) (mul-le-mul-right C (less X Y))))
 
 -- p / i ≤ m / e, and n / d ≤ q / j
 far-cross : (p i m e j d : ℕ) → p * e ≤ m * i → p * j * (e * d) ≤ m * d * (i * j)
-far-cross p i m e j d h = le-trans (le-of-eq (simp (mul-assoc, mul-comm, mul-left-comm))) (le-trans (mul-le-mul-right (j * d) h) (le-of-eq (simp (mul-assoc, mul-comm, mul-left-comm))))
+far-cross p i m e j d h =
+    le-trans (le-of-eq (simp (mul-assoc, mul-comm, mul-left-comm))) (le-trans (mul-le-mul-right (j * d) h) (le-of-eq (simp (mul-assoc, mul-comm, mul-left-comm))))
 
 near-cross : (n d q j e i : ℕ) → n * j ≤ q * d → n * e * (i * j) ≤ q * i * (e * d)
-near-cross n d q j e i h = le-trans (le-of-eq (simp (mul-assoc, mul-comm, mul-left-comm))) (le-trans (mul-le-mul-right (e * i) h) (le-of-eq (simp (mul-assoc, mul-comm, mul-left-comm))))
+near-cross n d q j e i h =
+    le-trans (le-of-eq (simp (mul-assoc, mul-comm, mul-left-comm))) (le-trans (mul-le-mul-right (e * i) h) (le-of-eq (simp (mul-assoc, mul-comm, mul-left-comm))))
 
 sum-at : (p : ℕ) (i : ℤ) (q : ℕ) (j : ℤ) (x y : Float) → T (positive (fin false p i ⊖ fin false q j)) → T (above x) → T (le (fin false p i) x) → AtMost (q * up j) (down j) y
     → T (le (fin false p i ⊖ fin false q j) (x ⊕ y))
@@ -396,7 +404,8 @@ sum-at p i q j (inf true) (fin t n d) P a l h = absurd a
 sum-at p i q j (inf false) (fin t n d) P a l h = beyond-top (fin false p i ⊖ fin false q j) P
 sum-at p i q j (fin true m e) (fin t n d) P a l h = absurd a
 sum-at p i q j (fin false m e) (fin t n d) P a l h =
-    sum-reaches t (p * up i * down j) (q * up j * down i) (down i * down j) (m * up e * down d) (n * up d * down e) (down e * down d) (mul-pos (down-pos i) (down-pos j)) (mul-pos (down-pos e) (down-pos d)) P
+    sum-reaches t (p * up i * down j) (q * up j * down i) (down i * down j) (m * up e * down d) (n * up d * down e) (down e * down d)
+    (mul-pos (down-pos i) (down-pos j)) (mul-pos (down-pos e) (down-pos d)) P
     (far-cross (p * up i) (down i) (m * up e) (down e) (down j) (down d) (lt-or-eq (p * up i * down e) (m * up e * down i) l))
     (near-cross (n * up d) (down d) (q * up j) (down j) (down e) (down i) h)
 
@@ -444,7 +453,8 @@ product-at a b (fin true m e) y P p q f g l k = absurd f
 product-at a b (fin false m e) nan P p q f g l k = absurd g
 product-at a b (fin false m e) (inf true) P p q f g l k = absurd g
 product-at a b (fin false zero e) (inf false) P p q f g l k = absurd f
-product-at a b (fin false (suc m) e) (inf false) P p q f g l k = subst (λ (v : Float). T (le (a ⊗ b) v)) (sym (top-times m e) ∙ mul-swap binary32 (inf false) (fin false (suc m) e)) (beyond-top (a ⊗ b) P)
+product-at a b (fin false (suc m) e) (inf false) P p q f g l k =
+    subst (λ (v : Float). T (le (a ⊗ b) v)) (sym (top-times m e) ∙ mul-swap binary32 (inf false) (fin false (suc m) e)) (beyond-top (a ⊗ b) P)
 product-at a b (fin false m e) (fin true n d) P p q f g l k = absurd g
 product-at a b (fin false m e) (fin false n d) P p q f g l k = mul-mono binary32 a (fin false m e) b (fin false n d) p f q g l k
 
@@ -485,7 +495,8 @@ quotient-under (inf false) (fin false (suc n) d) u p h = absurd (top-quotient (s
 quotient-under (fin s zero e) (fin false (suc n) d) u p h = zero-at-most s e (suc n * up d) (down d)
 quotient-under (fin true (suc m) e) (fin false (suc n) d) u p h = absurd u
 quotient-under (fin false (suc m) e) (fin false (suc n) d) u p h =
-    below-one (suc m * up e * down d) (suc n * up d * down e) (mul-pos (mul-pos (zero-lt-suc n) (up-pos d)) (down-pos e)) (subst (λ (v : Float). T (lt v (whole 1))) (div-is false (suc m) e false n d) h)
+    below-one (suc m * up e * down d) (suc n * up d * down e) (mul-pos (mul-pos (zero-lt-suc n) (up-pos d)) (down-pos e))
+    (subst (λ (v : Float). T (lt v (whole 1))) (div-is false (suc m) e false n d) h)
 
 -- 1 / s is rounded to at most 2 / s
 reciprocal : (n : ℕ) (d : ℤ) → T (le (whole 1) (fin false (suc n) d)) → AtMost (down d * 2) (suc n * up d) (whole 1 ⊘ fin false (suc n) d)
@@ -508,7 +519,8 @@ four-times : (x : Float) (n : ℕ) (d : ℤ) → T (le (whole 1) (fin false (suc
 unfolding round
 four-times x n d l h =
     let N = mul-pos (zero-lt-suc n) (up-pos d) in
-    mul-at-most x (whole 1 ⊘ fin false (suc n) d) (suc n * up d * 2) (down d) (down d * 2) (suc n * up d) 1 (pos 2) (down-pos d) N h (reciprocal n d l) (four-is (suc n * up d) (down d) N (down-pos d))
+    mul-at-most x (whole 1 ⊘ fin false (suc n) d) (suc n * up d * 2) (down d) (down d * 2) (suc n * up d) 1 (pos 2) (down-pos d) N h
+    (reciprocal n d l) (four-is (suc n * up d) (down d) N (down-pos d))
 
 pub over-itself : (x s : Float) → T (positive s) → T (le (whole 1) s) → AtMost (num s * 2) (den s) x → Small (whole 4) (x ⊗ (whole 1 ⊘ s))
 over-itself x nan p l h = absurd p

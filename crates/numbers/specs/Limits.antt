@@ -2,7 +2,7 @@
 use mathlib.Core.Path.{subst}
 use mathlib.Core.Bool.{Bool, true, false}
 use lib.Dec.{T}
-use lib.Ieee.{Float, neg, lt, le}
+use lib.Ieee.{Float, lt, le}
 use Rattle.laws.specs.Neg.{neg-neg}
 use Rattle.laws.specs.NotFinite.{unsigned}
 use Rattle.laws.specs.Limits.{Small, AtLeast, turned, under, compared, raised}
