@@ -1,5 +1,7 @@
 pub mod Trig
 pub mod Large
 pub mod Signs
+pub mod Steady
+pub mod Flat
 pub mod TrigLaws
 pub mod TrigValues
