@@ -12,7 +12,7 @@ use Rattle.numbers.specs.Select.{maxOf}
 use Rattle.numbers.specs.SelectLaws.{max-left}
 use Rattle.numbers.specs.Order.{le-number-right}
 
-signed-small : (s : Bool) {a x : Float} → Small a x → Small a (signed s x)
+pub signed-small : (s : Bool) {a x : Float} → Small a x → Small a (signed s x)
 unfolding signed
 signed-small true h = turned h
 signed-small false h = h

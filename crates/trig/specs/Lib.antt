@@ -4,4 +4,5 @@ pub mod Signs
 pub mod Steady
 pub mod Flat
 pub mod TrigLaws
+pub mod Limits
 pub mod TrigValues
