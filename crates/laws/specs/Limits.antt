@@ -126,7 +126,7 @@ quotient-cross m e p i q j n d h l =
     le-trans (le-of-eq (simp (mul-assoc, mul-comm, mul-left-comm))) (le-trans (mul-le-mul h l) (le-of-eq (simp (mul-assoc, mul-comm, mul-left-comm))))
 
 -- a divisor that is no zero
-div-is : (s : Bool) (m : ℕ) (e : ℤ) (t : Bool) (n : ℕ) (d : ℤ) → fin s m e ⊘ fin t (suc n) d ≡ round binary32 (unlike s t) (m * up e * down d) (suc n * up d * down e)
+pub div-is : (s : Bool) (m : ℕ) (e : ℤ) (t : Bool) (n : ℕ) (d : ℤ) → fin s m e ⊘ fin t (suc n) d ≡ round binary32 (unlike s t) (m * up e * down d) (suc n * up d * down e)
 unfolding div
 div-is s m e t n d =
     ap (λ (b : Bool). cond b (cond (eqb m 0) nan (inf (unlike s t))) (round binary32 (unlike s t) (m * up e * down d) (suc n * up d * down e))) (eqb·suc-zero n)

@@ -20,7 +20,7 @@ use Rattle.laws.specs.Size.{lt-or-eq, zero-at-most}
 use Rattle.laws.specs.Limits.{Held, Small, AtLeast, times, plus, turned, own, sum-least, div-is}
 use Rattle.numbers.specs.Words.{signOf, signed, absOf}
 use Rattle.numbers.specs.Limits.{signed-small, abs-small, abs-under, small-of-abs}
-use Rattle.trig.specs.Trig.{one, minusOne, pi, infinity, boundedOf, sinNear, cosNear, reducedOf, curveOf, waveOf, sinOf, cosOf, atanNear, slopeOf, angleOf, atan2Of}
+use Rattle.trig.specs.Trig.{zero as none, one, minusOne, pi, infinity, boundedOf, sinNear, cosNear, reducedOf, curveOf, waveOf, sinOf, cosOf, atanNear, slopeOf, angleOf, atan2Of}
 use Rattle.trig.specs.TrigLaws.{cos-range, abs-inside}
 use Rattle.trig.specs.Flat.{flat}
 
