@@ -86,20 +86,23 @@ mag-at-most : (m : ℕ) (e : ℤ) (n d L B : ℕ) → 0 < d → m * up e * d ≤
 mag-at-most m e n d L B D h l = fraction (mag m e) (down e) (m * up e) n d L (2 ^ 149) B D (down-pos e) (div-mul-le-self (m * up e * 2 ^ 149) (down e)) h l
 
 -- ---- √x is at most U units where x, which is not below zero, is at most n / d, and that at most the square of U
-root-at-most : (x : Float) (n d p c : ℕ) → T (not (underZero x)) → 0 < d → AtMost n d x → n * 2 ^ 149 * 2 ^ 149 ≤ (p * 2 ^ c) ^ 2 * d → p < 2 ^ 24 → p * 2 ^ c < 2 ^ 277 → AtMost (p * 2 ^ c) (2 ^ 149) (sqrtOf x)
+root-at-most : (x : Float) (n d p c : ℕ) → T (not (underZero x)) → 0 < d → AtMost n d x
+    → n * 2 ^ 149 * 2 ^ 149 ≤ (p * 2 ^ c) ^ 2 * d → p < 2 ^ 24 → p * 2 ^ c < 2 ^ 277 → AtMost (p * 2 ^ c) (2 ^ 149) (sqrtOf x)
 root-at-most nan n d p c u D h l k b = absurd h
 root-at-most (inf s) n d p c u D h l k b = absurd h
 root-at-most (fin s zero e) n d p c u D h l k b = subst (λ (v : Float). AtMost (p * 2 ^ c) (2 ^ 149) v) (sym (sqrt-zero s e)) (zero-at-most s e (p * 2 ^ c) (2 ^ 149))
 root-at-most (fin true (suc m) e) n d p c u D h l k b = absurd u
 root-at-most (fin false (suc m) e) n d p c u D h l k b =
-    value-at-most false 2 (mag (suc m) e * 2 ^ 149) p c (sqrtOf (fin false (suc m) e)) (no-zero 2 refl) k (sqrt-nearest m e) (mag-at-most (suc m) e n d (2 ^ 149) ((p * 2 ^ c) ^ 2) D h l) b
+    value-at-most false 2 (mag (suc m) e * 2 ^ 149) p c (sqrtOf (fin false (suc m) e)) (no-zero 2 refl) k (sqrt-nearest m e)
+    (mag-at-most (suc m) e n d (2 ^ 149) ((p * 2 ^ c) ^ 2) D h l) b
 
 -- the same of a power of two, and of x in units, M of them
 pub sqrt-at-most : (x : Float) (M c : ℕ) → T (not (underZero x)) → AtMost M (2 ^ 149) x → M * 2 ^ 149 ≤ (2 ^ c) ^ 2 → c < 277 → AtMost (2 ^ c) (2 ^ 149) (sqrtOf x)
 sqrt-at-most x M c u h l k =
     let e = one-mul (2 ^ c) in
     subst (λ (z : ℕ). AtMost z (2 ^ 149) (sqrtOf x)) e
-    (root-at-most x M (2 ^ 149) 1 c u (pow-pos 149) h (mul-le-mul-right (2 ^ 149) (subst (λ (z : ℕ). M * 2 ^ 149 ≤ z ^ 2) (sym e) l)) (lit< tt) (subst (λ (z : ℕ). z < 2 ^ 277) (sym e) (pow-lt k)))
+    (root-at-most x M (2 ^ 149) 1 c u (pow-pos 149) h
+    (mul-le-mul-right (2 ^ 149) (subst (λ (z : ℕ). M * 2 ^ 149 ≤ z ^ 2) (sym e) l)) (lit< tt) (subst (λ (z : ℕ). z < 2 ^ 277) (sym e) (pow-lt k)))
 
 -- ---- a number of the format in units
 module _ (n : ℕ) (k : ℤ) (F : T (fits binary32 (fin false (suc n) k))) where
@@ -119,7 +122,8 @@ module _ (n : ℕ) (k : ℤ) (F : T (fits binary32 (fin false (suc n) k))) where
   under : U < 2 ^ 277
   under =
       lt-of-mul-lt-mul-right (down k)
-      (lt-of-le-of-lt (le-of-eq (sym units-are)) (lt-of-lt-of-le (mul-lt-mul-of-pos-right (fits-says binary32 false n k F .under) (pow-pos 149)) (le-of-eq (mul-right-comm (2 ^ 128) (down k) (2 ^ 149)))))
+      (lt-of-le-of-lt (le-of-eq (sym units-are))
+      (lt-of-lt-of-le (mul-lt-mul-of-pos-right (fits-says binary32 false n k F .under) (pow-pos 149)) (le-of-eq (mul-right-comm (2 ^ 128) (down k) (2 ^ 149)))))
 
   U-square : suc n * up k * (suc n * up k) * 2 ^ 149 * 2 ^ 149 ≡ U ^ 2 * (down k * down k)
   U-square =
@@ -137,13 +141,11 @@ sqrt-small x (fin true n k) F P u h = absurd P
 sqrt-small x (fin false zero k) F P u h = absurd P
 sqrt-small x (fin false (suc n) k) F P u h = record {
   held = widened (sqrtOf x) (U n k F) (2 ^ 149) (suc n * up k) (down k) (pow-pos 149) (le-of-eq (sym (units-are n k F)))
-      (root-at-most x (suc n * up k * (suc n * up k)) (down k * down k) (suc n) (shift binary32 k) u (mul-pos (down-pos k) (down-pos k)) h (le-of-eq (U-square n k F)) (short n k F) (under n k F));
+      (root-at-most x (suc n * up k * (suc n * up k)) (down k * down k) (suc n) (shift binary32 k) u (mul-pos (down-pos k) (down-pos k)) h
+      (le-of-eq (U-square n k F)) (short n k F) (under n k F));
 }
 
 -- ---- and of at least 1 is at least 1
-one-square : (2 ^ 149) ^ 2 ≡ 2 ^ 149 * 2 ^ 149
-one-square = square (2 ^ 149)
-
 least : (q d : ℕ) → 1 * 2 ^ 149 ≤ q * 2 ^ d → T (le (fin false 1 (pos 0)) (units binary32 false q d))
 least q d h = elim (decLt (q * 2 ^ d) (2 ^ 277)) [
   | yes l ↦
@@ -170,7 +172,7 @@ reaches x h f = go x (above-of-le (fin false 1 (pos 0)) x tt h) h f
         let N = sqrt-nearest m e in
         let cross : 1 * 1 * down e ≤ suc m * up e * 1 = le→cross (fin false 1 (pos 0)) (fin false (suc m) e) tt a h in
         let g : 2 ^ 149 ≤ mag (suc m) e = le-div-iff-mul-le (down-pos e) .1 (scaled (down e) (suc m * up e) (2 ^ 149) cross) in
-        let b : (1 * 2 ^ 149) ^ 2 ≤ mag (suc m) e * 2 ^ 149 = le-trans (le-of-eq one-square) (mul-le-mul-right (2 ^ 149) g) in
+        let b : (1 * 2 ^ 149) ^ 2 ≤ mag (suc m) e * 2 ^ 149 = le-trans (le-of-eq (square (2 ^ 149))) (mul-le-mul-right (2 ^ 149) g) in
         subst (λ (v : Float). T (le (fin false 1 (pos 0)) v)) (sym (N .value))
         (least (N .q) (N .d) (nearest-at-least false 2 (mag (suc m) e * 2 ^ 149) 1 149 (sqrtOf (fin false (suc m) e)) (no-zero 2 refl) (lit< tt) N b))
 
@@ -202,11 +204,14 @@ module _ (n : ℕ) (i : ℤ) (F : T (fits binary32 (fin false (suc n) i))) where
 
   twice-at-most : (v : Float) (a : ℕ) → Nearest false 2 a v → a ≤ (W * 2) ^ 2 → W * 2 < 2 ^ 277 → AtMost (suc n * up i * 2) (down i) v
   twice-at-most v a N h l =
-      widened v (W * 2) (2 ^ 149) (suc n * up i * 2) (down i) (pow-pos 149) (le-of-eq (mul-right-comm W 2 (down i) ∙ ap (λ (z : ℕ). z * 2) (sym (units-are n i F)) ∙ mul-right-comm (suc n * up i) (2 ^ 149) 2))
+      widened v (W * 2) (2 ^ 149) (suc n * up i * 2) (down i) (pow-pos 149)
+      (le-of-eq (mul-right-comm W 2 (down i) ∙ ap (λ (z : ℕ). z * 2) (sym (units-are n i F)) ∙ mul-right-comm (suc n * up i) (2 ^ 149) 2))
       (subst (λ (z : ℕ). AtMost z (2 ^ 149) v) doubled
-      (value-at-most false 2 a (suc n) (suc (shift binary32 i)) v (no-zero 2 refl) (short n i F) N (subst (λ (z : ℕ). a ≤ z ^ 2) (sym doubled) h) (subst (λ (z : ℕ). z < 2 ^ 277) (sym doubled) l)))
+      (value-at-most false 2 a (suc n) (suc (shift binary32 i)) v (no-zero 2 refl) (short n i F) N
+      (subst (λ (z : ℕ). a ≤ z ^ 2) (sym doubled) h) (subst (λ (z : ℕ). z < 2 ^ 277) (sym doubled) l)))
 
-pub hypot-small : (a x y : Float) → T (fits binary32 a) → T (positive a) → T (le a (fin false 1 (pos 100))) → AtMost (num a) (den a) x → AtMost (num a) (den a) y → AtMost (num a * 2) (den a) (hypotOf x y)
+pub hypot-small : (a x y : Float) → T (fits binary32 a) → T (positive a) → T (le a (fin false 1 (pos 100)))
+    → AtMost (num a) (den a) x → AtMost (num a) (den a) y → AtMost (num a * 2) (den a) (hypotOf x y)
 hypot-small a nan y F P l h k = absurd h
 hypot-small a (inf s) y F P l h k = absurd h
 hypot-small a (fin s m e) nan F P l h k = absurd k

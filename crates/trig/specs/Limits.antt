@@ -58,7 +58,8 @@ smaller (fin false n k) nan t p j h l = absurd l
 smaller (fin false n k) (inf s) t p j h l = absurd l
 smaller (fin false n k) (fin s m e) t p j h l = cross (p * up j) (down j) (m * up e) (down e) (n * up k) (down k) (down-pos e) (h s m e refl) l
 
-bounded-small : {b v : Float} (s : Bool) (p : ℕ) (i : ℤ) (q : ℕ) (j : ℤ) → (T (not (lt (fin s p i) v)) → Small b (fin s p i)) → (T (not (lt v (fin false q j))) → Small b (fin false q j))
+bounded-small : {b v : Float} (s : Bool) (p : ℕ) (i : ℤ) (q : ℕ) (j : ℤ)
+    → (T (not (lt (fin s p i) v)) → Small b (fin s p i)) → (T (not (lt v (fin false q j))) → Small b (fin false q j))
     → Small b v → Small b (boundedOf (fin s p i) (fin false q j) v)
 unfolding boundedOf
 bounded-small {b} {v} s p i q j low high h = go (lt (fin s p i) v) (lt v (fin false q j)) low high
@@ -252,8 +253,9 @@ atan-is nan u f h = unfold lt in absurd h
 atan-is (inf true) u f h = absurd u
 atan-is (inf false) u f h = unfold lt in absurd h
 atan-is (fin true q j) u f h = absurd u
-atan-is (fin false zero j) u f h = ap (λ (k : ℤ). atanNear (fin false 0 k)) (zero-exp binary32 false j f) ∙ atan-none ∙ ap (λ (k : ℤ). fin false 0 k) (sym (zero-exp binary32 false j f))
-atan-is (fin false (suc q) j) u f h = flat (fin false (suc q) j) f (unfold lt in lt→ltb (0 * 1 * down j) (suc q * up j * 1) (some (down j) (suc q * up j) (mul-pos (zero-lt-suc q) (up-pos j)))) h
+atan-is (fin false zero j) u f h = subst (λ (k : ℤ). atanNear (fin false 0 k) ≡ fin false 0 k) (sym (zero-exp binary32 false j f)) atan-none
+atan-is (fin false (suc q) j) u f h = flat (fin false (suc q) j) f
+    (unfold lt in lt→ltb (0 * 1 * down j) (suc q * up j * 1) (some (down j) (suc q * up j) (mul-pos (zero-lt-suc q) (up-pos j)))) h
   where
     some : (w v : ℕ) → 0 < v → 0 * 1 * w < v * 1
     some w v g = omega arith
@@ -299,7 +301,8 @@ module _ (a : Float) (n : ℕ) (d : ℤ) (m : ℕ) (e : ℤ) where
     lower g =
         steep (y ⊘ x) bare (its .thin)
         (subst (λ (t : Float). T (le (fin false 1 (pos 0)) t)) (sym (div-is false n d false m e))
-        (round-mono binary32 1 1 X Y (zero-lt-suc 0) (mul-pos (mul-pos (zero-lt-suc m) (up-pos e)) (down-pos d)) (le-trans (le-of-eq (one-mul Y)) (le-trans g (le-of-eq (sym (mul-one X)))))))
+        (round-mono binary32 1 1 X Y (zero-lt-suc 0) (mul-pos (mul-pos (zero-lt-suc m) (up-pos e)) (down-pos d))
+        (le-trans (le-of-eq (one-mul Y)) (le-trans g (le-of-eq (sym (mul-one X)))))))
 
     not-steep : lt x y ≡ false
     unfolding lt
