@@ -8,7 +8,7 @@ use native.Mathlib.Nat.{one-mul, mul-one, mul-mul-mul-comm, mul-assoc, mul-comm,
 use native.Mathlib.Omega.{arith}
 use lib.IntN.{ℤ, pos}
 use lib.Dec.{T, ltb, eqb, ltb→lt, lt→ltb, nltb→le, eqb·suc-zero}
-use lib.Ieee.{Float, nan, inf, fin, binary32, up, down, unlike, below, round, sum, neg, add, sub, mul, div, lt, le}
+use lib.Ieee.{Float, nan, inf, fin, binary32, up, down, unlike, below, round, sum, neg, add, sub, mul, div, lt, eq, le}
 use lib.Ieee.Fits.{up-pos, down-pos, and-l, and-r}
 use lib.Ieee.Order.{le-of-values, round-mono}
 use lib.Ieee.Scale.{round-same}
@@ -19,7 +19,7 @@ use Rattle.laws.specs.Compare.{underZero}
 use Rattle.laws.specs.Neg.{round-neg}
 use Rattle.laws.specs.Same.{add-swap, mul-swap}
 use Rattle.laws.specs.NotFinite.{unsigned, unsigned-round}
-use Rattle.laws.specs.Size.{AtMost, widened, lt-or-eq, zero-at-most, le-at-most, neg-at-most, round-at-most, round-twice, mul-at-most, add-at-most}
+use Rattle.laws.specs.Size.{AtMost, widened, of-unsigned, lt-or-eq, zero-at-most, le-at-most, neg-at-most, round-at-most, round-twice, mul-at-most, add-at-most}
 
 -- a limit that is not finite asks nothing, and no limit has a minus sign
 abbrev pub Held : Float → Float → Type 0
@@ -462,7 +462,7 @@ pub least-product : {a b x y : Float} → T (positive (a ⊗ b)) → AtLeast a x
 least-product {a} {b} {x} {y} p h l = record { above = p; reached = product-at a b x y p (h .above) (l .above) (over-zero h) (over-zero l) (h .reached) (l .reached) }
 
 -- ---- quotients by what is above zero
-not-both : (v : Float) → T (unsigned v) → T (le (whole 1) v) → T (lt v (whole 1)) → ⊥
+pub not-both : (v : Float) → T (unsigned v) → T (le (whole 1) v) → T (lt v (whole 1)) → ⊥
 unfolding le round
 not-both nan u l h = h
 not-both (inf true) u l h = u
@@ -528,3 +528,78 @@ over-itself x (inf t) p l h = absurd p
 over-itself x (fin true n d) p l h = absurd p
 over-itself x (fin false zero d) p l h = absurd p
 over-itself x (fin false (suc n) d) p l h = record { held = four-times x n d l h }
+
+-- ---- one more, and the sign of a quotient
+more-than-one : (m : ℕ) (e : ℤ) → T (le (whole 1) (whole 1 ⊕ fin false m e))
+unfolding add round
+more-than-one m e = round-mono binary32 1 1 (1 * 1 * down e + m * up e * 1) (1 * down e) (zero-lt-suc 0) (mul-pos (zero-lt-suc 0) (down-pos e)) (omega arith)
+
+one-more-le : (x : Float) → T (above x) → T (le (whole 1) (whole 1 ⊕ x))
+unfolding add round le
+one-more-le nan h = absurd h
+one-more-le (inf true) h = absurd h
+one-more-le (inf false) h = tt
+one-more-le (fin true m e) h = absurd h
+one-more-le (fin false m e) h = more-than-one m e
+
+pub one-more : {a x : Float} → AtLeast a x → AtLeast (whole 1) (whole 1 ⊕ x)
+unfolding round
+one-more {a} {x} h = record { above = tt; reached = one-more-le x (over-zero h) }
+
+pub no-minus-over : (x y : Float) → T (unsigned x) → T (above y) → T (not (underZero (x ⊘ y)))
+unfolding div
+no-minus-over nan y f g = tt
+no-minus-over (inf true) y f g = absurd f
+no-minus-over (inf false) nan f g = absurd g
+no-minus-over (inf false) (inf true) f g = absurd g
+no-minus-over (inf false) (inf false) f g = tt
+no-minus-over (inf false) (fin true n d) f g = absurd g
+no-minus-over (inf false) (fin false n d) f g = tt
+no-minus-over (fin true m e) y f g = absurd f
+no-minus-over (fin false m e) nan f g = absurd g
+no-minus-over (fin false m e) (inf true) f g = absurd g
+no-minus-over (fin false m e) (inf false) f g = tt
+no-minus-over (fin false m e) (fin true n d) f g = absurd g
+no-minus-over (fin false m e) (fin false zero d) f g = absurd g
+no-minus-over (fin false m e) (fin false (suc n) d) f g =
+    subst (λ (v : Float). T (not (underZero v))) (sym (div-is false m e false n d))
+    (of-unsigned (round binary32 false (m * up e * down d) (suc n * up d * down e)) (unsigned-round binary32 (m * up e * down d) (suc n * up d * down e)))
+
+above-unsigned : (x : Float) → T (above x) → T (unsigned x)
+above-unsigned nan h = tt
+above-unsigned (inf s) h = h
+above-unsigned (fin true m e) h = absurd h
+above-unsigned (fin false m e) h = tt
+
+pub not-under-over : {a b x y : Float} → AtLeast a x → AtLeast b y → T (not (underZero (x ⊘ y)))
+not-under-over {a} {b} {x} {y} h l = no-minus-over x y (above-unsigned x (over-zero h)) (over-zero l)
+
+either : (a b : Bool) → T a → T (a || b)
+either true b h = tt
+either false b h = absurd h
+
+-- what is below a limit is below a larger one
+pub below-limit : (x a c : Float) → T (not (underZero x)) → T (unsigned a) → T (lt x a) → T (lt a c) → T (lt x c)
+below-limit x a c u f h l = under c l (compared x a u f (unfold le in either (lt x a) (eq x a) h))
+
+-- a limit above zero, as a fraction
+pub at-fraction : (s x : Float) → T (positive s) → Held s x → AtMost (num s) (den s) x
+at-fraction nan x p h = absurd p
+at-fraction (inf t) x p h = absurd p
+at-fraction (fin true m e) x p h = absurd p
+at-fraction (fin false m e) x p h = h
+
+pub of-fraction : (s x : Float) → T (positive s) → AtMost (num s) (den s) x → Held s x
+of-fraction nan x p h = absurd p
+of-fraction (inf t) x p h = absurd p
+of-fraction (fin true m e) x p h = absurd p
+of-fraction (fin false m e) x p h = h
+
+pub positive-above : (x : Float) → T (positive x) → T (above x)
+positive-above nan p = absurd p
+positive-above (inf s) p = absurd p
+positive-above (fin true m e) p = absurd p
+positive-above (fin false m e) p = p
+
+pub positive-unsigned : (x : Float) → T (positive x) → T (unsigned x)
+positive-unsigned x p = above-unsigned x (positive-above x p)

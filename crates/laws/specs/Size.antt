@@ -62,7 +62,7 @@ le-at-most (fin true (suc m) e) p k u h = absurd u
 le-at-most (fin false m e) p k u h = lt-or-eq (m * up e * down k) (p * up k * down e) h
 
 -- ---- what is rounded: at most what a larger fraction is rounded to, and at most twice the fraction
-of-unsigned : (v : Float) → T (unsigned v) → T (not (underZero v))
+pub of-unsigned : (v : Float) → T (unsigned v) → T (not (underZero v))
 of-unsigned nan u = tt
 of-unsigned (inf s) u = u
 of-unsigned (fin s zero e) u = tt
