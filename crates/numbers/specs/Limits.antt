@@ -52,5 +52,7 @@ abs-unsigned (fin false m e) = tt
 -- a slope below a limit of less than 1: y is no larger than x
 pub slope-under : (y x a : Float) → T (positive x) → T (lt (absOf y ⊘ x) a) → T (unsigned a) → T (lt a (whole 1)) → Small x y
 slope-under y x a p h f l =
-    abs-back x y (record { held = of-fraction x (absOf y) p (quotient-under (absOf y) x (abs-not-below y) p
-    (below-limit (absOf y ⊘ x) a (whole 1) (no-minus-over (absOf y) x (abs-unsigned y) (positive-above x p)) f h l)) })
+    abs-back x y (record {
+      held = of-fraction x (absOf y) p (quotient-under (absOf y) x (abs-not-below y) p
+          (below-limit (absOf y ⊘ x) a (whole 1) (no-minus-over (absOf y) x (abs-unsigned y) (positive-above x p)) f h l));
+    })
