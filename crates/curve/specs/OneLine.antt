@@ -10,13 +10,13 @@ use lib.Dec.{T, leb, leb→le, ltb→lt, lt→ltb}
 use lib.Ieee.{Float, nan, inf, fin, binary32, up, down, fits, isNan, toUnsigned, round, ofBits, add, sub, mul, div, lt, eq, le}
 use lib.Ieee.Bits.{is-true}
 use lib.Ieee.Fits.{and-l, and-r, add-fits}
-use lib.Ieee.Positive.{positive, num, den, den-pos, between}
+use lib.Ieee.Positive.{positive, num, den, den-pos, positive-finite, between}
 use lib.Ieee.Scale.{finite}
 use Rattle.laws.specs.Binary32.{_⊕_, _⊖_, _⊗_, _⊘_, dec, whole, f32}
 use Rattle.laws.specs.Compare.{underZero}
 use Rattle.laws.specs.NotFinite.{unsigned, unsigned-round}
 use Rattle.laws.specs.Size.{AtMost, widened}
-use Rattle.laws.specs.Limits.{Small, AtLeast, plain, times, plus, minus, over, own, most, wider, least-product, compared, not-under, not-under-over, at-fraction}
+use Rattle.laws.specs.Limits.{Small, AtLeast, plain, times, plus, minus, over, own, decimal, most, wider, least-product, compared, not-under, not-under-over, at-fraction}
 use Rattle.maths.specs.Numbers.{absOf, ceilOf, clampOf, abs-not-below, abs-small, abs-under, small-of-abs}
 use Rattle.maths.specs.Roots.{sqrtOf, sqrt-small, sqrt-least}
 use Rattle.maths.specs.Trig.{sinLimit, cosDrop}
@@ -29,7 +29,7 @@ use Rattle.spiral.specs.declared.euler.EulerParams.{EulerParams}
 use Rattle.drawing.specs.Sheet.{Event}
 use Rattle.drawing.specs.Cubic.{cubicAt}
 use Rattle.curve.specs.Fit.{isShort, firstTip, tipAt, paramsOf, multiplierOf, integrandOf, robustOf, nFracOf, fitOf}
-use Rattle.curve.specs.Straight.{one-count}
+use Rattle.curve.specs.Straight.{factor, one-count}
 use Rattle.curve.specs.Curve.{Front, frontOf, Trail, lineOf, linesOf, rangeOf, rangeEnd, tipOf, isNear, accepted, walk, isPoint, sideEvents}
 use Rattle.curve.specs.Walks.{walk-near}
 use Rattle.curve.specs.declared.fit.Tip.{Tip}
@@ -80,9 +80,6 @@ bendLimit a = middleLimit a ⊗ (middleLimit a ⊗ (whole 256 ⊘ whole 1 ⊗ de
 abbrev spanLimit : Float → Float → Float
 spanLimit l m = m ⊗ l ⊘ (dec 99 2 ⊗ dec 25 2)
 
-abbrev factor : Float
-factor = dec 5 1 ⊗ dec 707106781186547524400844362104849039 36
-
 -- v is at least the root of w
 abbrev rootOver : Float → Float → Bool
 rootOver v w = fits binary32 v && (positive v && (positive w && leb (num w * (den v * den v)) (num v * num v * den w)))
@@ -90,10 +87,11 @@ rootOver v w = fits binary32 v && (positive v && (positive w && leb (num w * (de
 -- slopes of at most a, a chord of at most l and a scale of at most m make one line; p and q are over the roots that are not taken
 abbrev enough : Float → Float → Float → Float → Float → Bool
 enough a l m p q =
-    (le (fittedLimit a ⊗ l ⊗ m) (dec 25 2) && plain (dec 25 2)) && (lt (curvatureLimit a) (dec 1 3) && (rootOver p (bendLimit a) && (rootOver q (spanLimit l m) && (le (p ⊗ (factor ⊗ q)) (whole 1) && unsigned (whole 1)))))
+    (le (fittedLimit a ⊗ l ⊗ m) (dec 25 2) && plain (dec 25 2))
+    && (lt (curvatureLimit a) (dec 1 3) && (rootOver p (bendLimit a) && (rootOver q (spanLimit l m) && (le (p ⊗ (factor ⊗ q)) (whole 1) && unsigned (whole 1)))))
 
 -- ---- a range whose slopes, chord and scale keep to limits
-pub record Held (a l m : Float) (from to : Tip) (offset scale : Float) : Type 0 where
+pub record Keeps (a l m : Float) (from to : Tip) (offset scale : Float) : Type 0 where
   pub whole-range : to .t ⊖ from .t ≡ whole 1
   pub some : T (positive (squareOf from to))
   pub long : T (le (whole 1) (squareOf from to))
@@ -105,17 +103,9 @@ pub record Held (a l m : Float) (from to : Tip) (offset scale : Float) : Type 0 
   pub scales : AtLeast (dec 95367431640625 20) scale
   pub off : Small (whole 256) offset
 
-decimal : (n k : ℕ) → Small (dec n k) (dec n k)
-decimal n k = own (dec n k) (unsigned-round binary32 n (10 ^ k))
-
 square-fits : (c : Vec2) → T (fits binary32 (lengthSquaredOf c))
 unfolding lengthSquaredOf dotOf
 square-fits c = add-fits binary32 (c .x ⊗ c .x) (c .y ⊗ c .y)
-
-positive-is-finite : (x : Float) → T (positive x) → T (finite x)
-positive-is-finite nan h = absurd h
-positive-is-finite (inf t) h = absurd h
-positive-is-finite (fin t m e) h = tt
 
 quarter-least : AtLeast (dec 25 2) (dec 25 2)
 unfolding round le
@@ -143,7 +133,7 @@ root-small x v w r u h =
     sqrt-small x v (and-l fit (positive v && (positive w && cross)) r) (and-l (positive v) (positive w && cross) r1) u
     (widened x (num w) (den w) (num v * num v) (den v * den v) (den-pos w) (leb→le _ _ (and-r (positive w) cross r2)) (at-fraction w x (and-l (positive w) cross r2) (h .held)))
 
-module _ (a l m p q : Float) (slight : Slight a) (ok : T (enough a l m p q)) (from to : Tip) (offset scale : Float) (h : Held a l m from to offset scale) where
+module _ (a l m p q : Float) (slight : Slight a) (ok : T (enough a l m p q)) (from to : Tip) (offset scale : Float) (h : Keeps a l m from to offset scale) where
   abbrev s : Float
   s = squareOf from to
 
@@ -176,7 +166,7 @@ module _ (a l m p q : Float) (slight : Slight a) (ok : T (enough a l m p q)) (fr
   middle = plus (minus (plus (flat .start) (flat .end)) (times (decimal 5 1) curvature)) (times (decimal 5 1) curvature)
 
   length-least : AtLeast (whole 1) (c .«chord_len»)
-  length-least = subst (λ (v : Float). AtLeast (whole 1) v) (sym (flat .long)) (sqrt-least (record { above = unfold round in tt; reached = h .long }) (positive-is-finite s (h .some)))
+  length-least = subst (λ (v : Float). AtLeast (whole 1) v) (sym (flat .long)) (sqrt-least (record { above = unfold round in tt; reached = h .long }) (positive-finite s (h .some)))
 
   length-most : Small l (c .«chord_len»)
   length-most = subst (λ (v : Float). Small l v) (sym (flat .long)) (h .chord)
@@ -352,8 +342,12 @@ module _ (from to : Tip) (offset scale : Float) (range : to .t ⊖ from .t ≡ w
     unfolding round
     scales-least = record { above = tt; reached = scales }
 
-    passes : (a far m : Float) → Row a far m → T (le (squareOf from to) far) → T (le scale m) → T (isAlong a (squareOf from to) (startOver (from .q) (chordOf from to))) → T (isAlong a (squareOf from to) (endOver (to .q) (chordOf from to))) → Passes from to offset scale
-    passes a far m row short scaled starts ends = record { near = near a (row .l) m (row .p) (row .q) (row .slight) (row .ok) from to offset scale held; count = count a (row .l) m (row .p) (row .q) (row .slight) (row .ok) from to offset scale held }
+    passes : (a far m : Float) → Row a far m → T (le (squareOf from to) far) → T (le scale m) → T (isAlong a (squareOf from to) (startOver (from .q) (chordOf from to)))
+        → T (isAlong a (squareOf from to) (endOver (to .q) (chordOf from to))) → Passes from to offset scale
+    passes a far m row short scaled starts ends = record {
+      near = near a (row .l) m (row .p) (row .q) (row .slight) (row .ok) from to offset scale keeps;
+      count = count a (row .l) m (row .p) (row .q) (row .slight) (row .ok) from to offset scale keeps;
+    }
       where
         some : T (positive (squareOf from to))
         some = between (whole 1) (squareOf from to) far (one-least .above) (far-above row) long short
@@ -361,8 +355,8 @@ module _ (from to : Tip) (offset scale : Float) (range : to .t ⊖ from .t ≡ w
         square : Small far (squareOf from to)
         square = compared (squareOf from to) far (not-under one-least) (and-l (unsigned far) (unsigned m) (row .unsigned)) short
 
-        held : Held a (row .l) m from to offset scale
-        held = record {
+        keeps : Keeps a (row .l) m from to offset scale
+        keeps = record {
           whole-range = range;
           some = some;
           long = long;
@@ -374,6 +368,9 @@ module _ (from to : Tip) (offset scale : Float) (range : to .t ⊖ from .t ≡ w
           scales = scales-least;
           off = small-of-abs offset (whole 256) (unsigned-round binary32 256 1) off;
         }
+
+    abbrev at-most : Float → Bool
+    at-most far = le (squareOf from to) far
 
     abbrev Along-by : Float → Type 0
     Along-by steep = T (areAlong steep (squareOf from to) (chordOf from to) (from .q) (to .q))
@@ -388,9 +385,10 @@ module _ (from to : Tip) (offset scale : Float) (range : to .t ⊖ from .t ≡ w
     -- the row that the square tells, of those that the scale tells
     by-square : (room m : Float) → Rows room m → T (le scale m) → Along-by (steepOf room (squareOf from to)) → Passes from to offset scale
     unfolding steepOf
-    by-square room m rows scaled = go (le (squareOf from to) (whole 65536 ⊗ room)) (le (squareOf from to) (whole 1048576 ⊗ room)) (le (squareOf from to) (whole 16777216 ⊗ room)) (λ t. t) (λ t. t) (λ t. t)
+    by-square room m rows scaled =
+        go (at-most (whole 65536 ⊗ room)) (at-most (whole 1048576 ⊗ room)) (at-most (whole 16777216 ⊗ room)) (λ t. t) (λ t. t) (λ t. t)
       where
-        go : (x y z : Bool) → (T x → T (le (squareOf from to) (whole 65536 ⊗ room))) → (T y → T (le (squareOf from to) (whole 1048576 ⊗ room))) → (T z → T (le (squareOf from to) (whole 16777216 ⊗ room)))
+        go : (x y z : Bool) → (T x → T (at-most (whole 65536 ⊗ room))) → (T y → T (at-most (whole 1048576 ⊗ room))) → (T z → T (at-most (whole 16777216 ⊗ room)))
             → Along-by (cond x (dec 6103515625 14) (cond y (dec 152587890625 16) (cond z (dec 3814697265625 18) nan))) → Passes from to offset scale
         go true y z f g h = by-row (dec 6103515625 14) (whole 65536 ⊗ room) m (rows .short) (f tt) scaled
         go false true z f g h = by-row (dec 152587890625 16) (whole 1048576 ⊗ room) m (rows .middle) (g tt) scaled
@@ -413,7 +411,8 @@ module _ (from to : Tip) (offset scale : Float) (range : to .t ⊖ from .t ≡ w
       → T (areAlong (steepOf (cond x (shareOf scale) nan) (squareOf from to)) (squareOf from to) (chordOf from to) (from .q) (to .q)) → Passes from to offset scale
   by-room true f long off t = by-scale from to offset scale range off (f tt) long t
   by-room false f long off t =
-      absurd (never (squareOf from to) (chordOf from to) (from .q) (to .q) (subst (λ (v : Float). T (areAlong v (squareOf from to) (chordOf from to) (from .q) (to .q))) (steep-none (squareOf from to)) t))
+      absurd (never (squareOf from to) (chordOf from to) (from .q) (to .q)
+      (subst (λ (v : Float). T (areAlong v (squareOf from to) (chordOf from to) (from .q) (to .q))) (steep-none (squareOf from to)) t))
 
   line-passes : T (isLine from to offset scale) → Passes from to offset scale
   unfolding isLine roomOf

@@ -2,7 +2,7 @@
 -- Assumes nothing.
 use mathlib.Core.Path.{_≡_, refl, sym, ap, _∙_, subst}
 use mathlib.Core.Bool.{Bool, true, false, not, _&&_, _||_, cond}
-use Prim.Native.Nat.{ℕ, zero, suc, _+_, _-_, _*_, _≤_, _<_, zero-le}
+use Prim.Native.Nat.{ℕ, zero, suc, _+_, _-_, _*_, _^_, _≤_, _<_, zero-le}
 use native.Mathlib.Nat.{le-refl, le-trans, le-of-eq, le-of-lt, le-of-suc-le-suc, lt-of-le-of-lt, lt-of-lt-of-le, lt-of-not-le, not-le-of-lt, zero-lt-suc}
 use native.Mathlib.Nat.{one-mul, mul-one, mul-mul-mul-comm, mul-assoc, mul-comm, mul-left-comm, mul-le-mul, mul-le-mul-right, le-of-mul-le-mul-right, mul-right-comm, mul-lt-mul-of-pos-right, lt-of-mul-lt-mul-right, mul-sub, mul-pos, zero-mul}
 use native.Mathlib.Omega.{arith}
@@ -14,7 +14,7 @@ use lib.Ieee.Order.{le-of-values, round-mono}
 use lib.Ieee.Scale.{round-same}
 use lib.Ieee.Positive.{num, den, positive, above, above-of-le, le-trans-positive, mul-mono}
 use borrow.Author.Tests.{lt-ltb, le-ltb}
-use Rattle.laws.specs.Binary32.{_⊕_, _⊖_, _⊗_, _⊘_, whole}
+use Rattle.laws.specs.Binary32.{_⊕_, _⊖_, _⊗_, _⊘_, dec, whole}
 use Rattle.laws.specs.Compare.{underZero}
 use Rattle.laws.specs.Neg.{round-neg}
 use Rattle.laws.specs.Same.{add-swap, mul-swap}
@@ -112,6 +112,10 @@ own-held (fin false p k) u = le-refl (p * up k * down k)
 
 pub own : (c : Float) → T (unsigned c) → Small c c
 own c u = record { held = own-held c u }
+
+-- a literal's own limit
+pub decimal : (n k : ℕ) → Small (dec n k) (dec n k)
+decimal n k = own (dec n k) (unsigned-round binary32 n (10 ^ k))
 
 pub turned : {a x : Float} → Small a x → Small a (neg x)
 turned {a} {x} h = record { held = turned-held a x (h .held) }

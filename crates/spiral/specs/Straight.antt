@@ -10,9 +10,9 @@ use lib.Ieee.Fits.{and-i}
 use lib.Ieee.Positive.{positive, num, den}
 use lib.Ieee.Scale.{finite}
 use Rattle.laws.specs.Binary32.{_⊕_, _⊖_, _⊗_, _⊘_, dec, whole, f32}
-use Rattle.laws.specs.NotFinite.{unsigned, unsigned-round}
+use Rattle.laws.specs.NotFinite.{unsigned}
 use Rattle.laws.specs.Size.{of-unsigned}
-use Rattle.laws.specs.Limits.{Small, AtLeast, times, plus, minus, over, own, turned, wider, least-sum, least-difference, least-product, lowered, one-more, not-negative, over-itself, compared, below-limit, at-fraction, positive-unsigned, not-both}
+use Rattle.laws.specs.Limits.{Small, AtLeast, times, plus, minus, over, own, decimal, turned, wider, least-sum, least-difference, least-product, lowered, one-more, not-negative, over-itself, compared, below-limit, at-fraction, positive-unsigned, not-both}
 use Rattle.maths.specs.Numbers.{absOf, maxOf, abs-small, max-least, slope-under}
 use Rattle.maths.specs.Roots.{sqrtOf, hypotOf, hypot-small}
 use Rattle.maths.specs.Trig.{sinOf, cosOf, one, sinLimit, cosDrop, sin-small, cos-least, cos-small, atan2-small}
@@ -48,9 +48,6 @@ pub record Slight (a : Float) : Type 0 where
   pub near : T (lt a (f32 0x3f480000))
   pub cosine : T (positive (one ⊖ cosDrop a))
   pub cosines : T (positive ((one ⊖ cosDrop a) ⊗ (one ⊖ cosDrop a)))
-
-decimal : (n k : ℕ) → Small (dec n k) (dec n k)
-decimal n k = own (dec n k) (unsigned-round binary32 n (10 ^ k))
 
 module _ (a th0 th1 d0 d1 : Float) (slight : Slight a) (h0 : Small a th0) (h1 : Small a th1) (l0 : Small (whole 4) d0) (l1 : Small (whole 4) d1) where
   cos-above : (th : Float) → Small a th → AtLeast (one ⊖ cosDrop a) (cosOf th)
@@ -139,14 +136,16 @@ module _ (a th0 th1 : Float) (slight : Slight a) (h0 : Small a th0) (h1 : Small 
       let c = minus (plus (less-part 1400 (record { above = tt; reached = tt })) (times d2 (decimal 684915970574303 19))) (times k2 (decimal 7936475029053326 21)) in
       times (minus h1 h0) (wider (dec 61 1) tt (plus a1 (times (plus b (times c k2)) k2)))
 
-  last : Small (dec 1 3) ((neg (whole 1) ⊘ whole 24 ⊕ dth ⊗ dth ⊗ dec 24702380951963226 19 ⊖ dth ⊗ dth ⊗ (dth ⊗ dth) ⊗ dec 37297408997537985 21 ⊕ (whole 1 ⊘ whole 1920 ⊖ dth ⊗ dth ⊗ dec 487350869747975 19 ⊖ k0 ⊗ k0 ⊗ dec 31001936068463107 22) ⊗ (k0 ⊗ k0)) ⊗ (k0 ⊗ k0))
+  -- what the spiral's chord is changed by at last
+  last : Small (dec 1 3)
+      ((neg (whole 1) ⊘ whole 24 ⊕ dth ⊗ dth ⊗ dec 24702380951963226 19 ⊖ dth ⊗ dth ⊗ (dth ⊗ dth) ⊗ dec 37297408997537985 21
+      ⊕ (whole 1 ⊘ whole 1920 ⊖ dth ⊗ dth ⊗ dec 487350869747975 19 ⊖ k0 ⊗ k0 ⊗ dec 31001936068463107 22) ⊗ (k0 ⊗ k0)) ⊗ (k0 ⊗ k0))
   unfolding round add mul div le ofBits
   last =
       let b = minus (plus (less-part 24 (record { above = tt; reached = tt })) (times d2 (decimal 24702380951963226 19))) (times (times d2 d2) (decimal 37297408997537985 21)) in
       let c = minus (minus (quotient 1 1920 tt) (times d2 (decimal 487350869747975 19))) (times k2 (decimal 31001936068463107 22)) in
       wider (dec 1 3) tt (times (plus b (times c k2)) k2)
 
-  -- what the chord is changed by: three times a little, and at last by a product
   pub ch-small : Small (dec 101 2) (fromAngles th0 th1 .ch)
   unfolding fromAngles round add mul div le ofBits
   ch-small =
