@@ -2,38 +2,36 @@
 -- length on the device. Then the error is within the tolerance, and the count of lines is 1. The test is here; the limits behind it are computed. Assumes nothing.
 use mathlib.Core.Path.{_≡_, refl, sym, ap, _∙_, subst}
 use mathlib.Core.Bool.{Bool, true, false, not, _&&_, cond}
-use mathlib.Core.List.{List, [], _∷_, _++_, flatten}
-use Prim.Native.Nat.{ℕ, zero, suc, _+_, _*_, _^_, _≤_, _<_, zero-le}
+use mathlib.Core.List.{List, [], _∷_, flatten}
+use Prim.Native.Nat.{ℕ, zero, suc, _*_, _^_, _<_, zero-le}
 use native.Mathlib.Nat.{lt-irrefl, lt-of-le-of-lt, zero-lt-suc, mul-one, zero-mul}
-use lib.IntN.{ℤ, pos, negsuc}
+use lib.IntN.{ℤ, pos}
 use lib.Dec.{T, leb, leb→le, ltb→lt, lt→ltb}
 use lib.Ieee.{Float, nan, inf, fin, binary32, up, down, fits, isNan, toUnsigned, round, ofBits, add, sub, mul, div, lt, eq, le}
 use lib.Ieee.Bits.{is-true}
 use lib.Ieee.Fits.{and-l, and-r, add-fits}
 use lib.Ieee.Positive.{positive, num, den, den-pos, positive-finite, between}
 use lib.Ieee.Scale.{finite}
-use Rattle.laws.specs.Binary32.{_⊕_, _⊖_, _⊗_, _⊘_, dec, whole, f32}
+use Rattle.laws.specs.Binary32.{_⊕_, _⊖_, _⊗_, _⊘_, dec, whole}
 use Rattle.laws.specs.Compare.{underZero}
 use Rattle.laws.specs.NotFinite.{unsigned, unsigned-round}
-use Rattle.laws.specs.Size.{AtMost, widened}
+use Rattle.laws.specs.Size.{widened}
 use Rattle.laws.specs.Limits.{Small, AtLeast, plain, times, plus, minus, over, own, decimal, most, wider, least-product, compared, not-under, not-under-over, at-fraction}
-use Rattle.maths.specs.Numbers.{absOf, ceilOf, clampOf, abs-not-below, abs-small, abs-under, small-of-abs}
+use Rattle.maths.specs.Numbers.{absOf, abs-not-below, abs-small, abs-under, small-of-abs}
 use Rattle.maths.specs.Roots.{sqrtOf, sqrt-small, sqrt-least}
 use Rattle.maths.specs.Trig.{sinLimit, cosDrop}
 use Rattle.spiral.specs.Util.{subOf, dotOf, lengthSquaredOf}
-use Rattle.spiral.specs.Euler.{fromAngles, fromPointsDerivs, longChord}
+use Rattle.spiral.specs.Euler.{fromAngles, fromPointsDerivs}
 use Rattle.spiral.specs.Straight.{Slight, Along, Flat, startOver, endOver, fittedLimit, not-short, flat-chord, k1-small, ch-small, ch-least}
 use Rattle.spiral.specs.declared.util.Vec2.{Vec2}
 use Rattle.spiral.specs.declared.euler.CubicParams.{CubicParams}
 use Rattle.spiral.specs.declared.euler.EulerParams.{EulerParams}
-use Rattle.drawing.specs.Sheet.{Event}
 use Rattle.drawing.specs.Cubic.{cubicAt}
 use Rattle.curve.specs.Fit.{isShort, firstTip, tipAt, paramsOf, multiplierOf, integrandOf, robustOf, nFracOf, fitOf}
 use Rattle.curve.specs.Straight.{factor, one-count}
 use Rattle.curve.specs.Curve.{Front, frontOf, Trail, lineOf, linesOf, rangeOf, rangeEnd, tipOf, isNear, accepted, walk, isPoint, sideEvents}
 use Rattle.curve.specs.Walks.{walk-near}
 use Rattle.curve.specs.declared.fit.Tip.{Tip}
-use Rattle.curve.specs.declared.fit.Fit.{Fit}
 use Rattle.curve.specs.declared.Side.{Side}
 
 -- ---- the test
@@ -300,12 +298,6 @@ unfolding lt
 no-less nan h = h
 no-less (inf t) h = h
 no-less (fin t m e) h = h
-
-no-most : (v : Float) → T (le v nan) → ⊥
-unfolding le
-no-most nan h = h
-no-most (inf t) h = h
-no-most (fin t m e) h = h
 
 never-along : (s : Float) (h : Vec2) → T (isAlong nan s h) → ⊥
 unfolding isAlong

@@ -77,7 +77,7 @@ fn are_along(steep: f32, squared: f32, c: Vec2, q0: Vec2, q1: Vec2) -> bool
     false
 }
 
-pub fn is_line(from: Tip, to: Tip, offset: f32, scale: f32) -> bool
+pub(crate) fn is_line(from: Tip, to: Tip, offset: f32, scale: f32) -> bool
     ensures { λ r. ⌜ r ≡ isLine from to offset scale ⌝ }
 {
     let c = to.p.sub(from.p);
@@ -91,7 +91,7 @@ pub fn is_line(from: Tip, to: Tip, offset: f32, scale: f32) -> bool
 }
 
 // A first look, by one control point: most curves are told from lines by it, and are not looked at closer.
-pub fn looks_straight(points: [Vec2; 4]) -> bool {
+pub(crate) fn looks_straight(points: [Vec2; 4]) -> bool {
     let p0 = points[0];
     let q = points[1].sub(p0);
     let c = points[3].sub(p0);

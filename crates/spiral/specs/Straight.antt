@@ -1,26 +1,26 @@
 -- A range that is nearly straight: how large the angles, the error and the spiral's numbers are at most, from the slopes of the tangents against the chord.
 -- Assumes nothing.
-use mathlib.Core.Path.{_≡_, refl, sym, ap, _∙_, subst}
-use mathlib.Core.Bool.{Bool, true, false, not, _&&_, cond}
-use Prim.Native.Nat.{ℕ, _*_, _^_, _≤_}
+use mathlib.Core.Path.{_≡_, refl, sym, subst}
+use mathlib.Core.Bool.{Bool, true, false, not, cond}
+use Prim.Native.Nat.{ℕ, _^_}
 use lib.IntN.{pos}
 use lib.Dec.{T}
 use lib.Ieee.{Float, fin, binary32, fits, round, ofBits, neg, add, sub, mul, div, lt, le}
 use lib.Ieee.Fits.{and-i}
-use lib.Ieee.Positive.{positive, num, den}
+use lib.Ieee.Positive.{positive}
 use lib.Ieee.Scale.{finite}
 use Rattle.laws.specs.Binary32.{_⊕_, _⊖_, _⊗_, _⊘_, dec, whole, f32}
 use Rattle.laws.specs.NotFinite.{unsigned}
 use Rattle.laws.specs.Size.{of-unsigned}
 use Rattle.laws.specs.Limits.{Small, AtLeast, times, plus, minus, over, own, decimal, turned, wider, least-sum, least-difference, least-product, lowered, one-more, not-negative, over-itself, compared, below-limit, at-fraction, positive-unsigned, not-both}
 use Rattle.maths.specs.Numbers.{absOf, maxOf, abs-small, max-least, slope-under}
-use Rattle.maths.specs.Roots.{sqrtOf, hypotOf, hypot-small}
-use Rattle.maths.specs.Trig.{sinOf, cosOf, one, sinLimit, cosDrop, sin-small, cos-least, cos-small, atan2-small}
+use Rattle.maths.specs.Roots.{hypotOf, hypot-small}
+use Rattle.maths.specs.Trig.{cosOf, one, sinLimit, cosDrop, sin-small, cos-least, cos-small, atan2-small}
 use Rattle.spiral.specs.Euler.{tangentThresh, fittedError, errorRatio, longChord, fromAngles}
 use Rattle.spiral.specs.Util.{newOf, lengthOf, angleOf}
 use Rattle.spiral.specs.declared.util.Vec2.{Vec2}
 use Rattle.spiral.specs.declared.euler.CubicParams.{CubicParams}
-use Rattle.spiral.specs.declared.euler.EulerParams.{EulerParams}
+
 
 -- 2 ^ -14
 abbrev pub slight : Float

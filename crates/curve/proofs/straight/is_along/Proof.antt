@@ -1,5 +1,4 @@
 -- `curve::straight::is_along` meets its contract. Assumes nothing.
-use borrow.Author.Needs.{needs}
 use lib.Ieee.{ofBits, round}
 use Rattle.curve.specs.OneLine.{isAlong}
 use Rattle.curve.proofs.straight.is_along.Statement.{statement}

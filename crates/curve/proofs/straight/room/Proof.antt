@@ -1,5 +1,4 @@
 -- `curve::straight::room` meets its contract. Assumes nothing.
-use mathlib.Core.Path.{_∙_}
 use lib.Ieee.{ofBits, round, div}
 use Rattle.curve.specs.OneLine.{roomOf}
 use Rattle.curve.proofs.straight.room.Statement.{statement}
