@@ -2,6 +2,7 @@ pub mod Fit
 pub mod Straight
 pub mod Curve
 pub mod Walks
+pub mod OneLine
 pub mod Chain
 pub mod Bounds
 pub mod Infinite

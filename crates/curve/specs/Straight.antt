@@ -35,12 +35,12 @@ from-zero (fin true (suc m) e) h =
 from-zero (fin false (suc m) e) h = tt
 
 -- ---- the count
-one-count : (v : Float) → AtMost 1 1 v → clampOf (ceilOf v) (whole 1) (whole 100) ≡ whole 1
+pub one-count : (v : Float) → AtMost 1 1 v → clampOf (ceilOf v) (whole 1) (whole 100) ≡ whole 1
 one-count nan h = absurd h
 one-count (inf s) h = absurd h
 one-count (fin s m e) h = one-of-ceil s m e (le-trans (le-of-eq (sym (mul-one (m * up e)))) (le-trans h (le-of-eq (one-mul (down e)))))
 
-abbrev factor : Float
+abbrev pub factor : Float
 factor = dec 5 1 ⊗ dec 707106781186547524400844362104849039 36
 
 factor-at-most : AtMost 1 2 factor

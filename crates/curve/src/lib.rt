@@ -1,6 +1,7 @@
 // A cubic, or the curve at an offset from it, as lines: it is cut into ranges that are each near a spiral, and a range
 // is 1 to 100 lines.
 mod fit;
+mod straight;
 
 ghost use mathlib.Core.Path.{_≡_};
 ghost use mathlib.Core.Bool.{_||_};
@@ -25,6 +26,8 @@ use fit::tip_at;
 use spiral::util::Vec2;
 use spiral::util::apply;
 use spiral::util::identity;
+use straight::is_line;
+use straight::looks_straight;
 
 const SUBDIV_LIMIT: f32 = 1.0 / 65536.0;
 
@@ -173,7 +176,13 @@ fn draw_side(lines: &mut [u32], ink: Ink, path: u32, side: Side) -> Ink
     if is_point(points) {
         return ink;
     }
-    walk_side(lines, ink, path, side, first_tip(points))
+    let first = first_tip(points);
+    if looks_straight(points) {
+        if is_line(first, tip_at(points, 1.0), side.offset, side.scale) {
+            return side_line(lines, ink, path, side, side.start, side.end);
+        }
+    }
+    walk_side(lines, ink, path, side, first)
 }
 
 // In device space, with no use of the given ends. The identity is applied to each line all the same.

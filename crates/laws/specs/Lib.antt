@@ -4,6 +4,7 @@ pub mod Nan
 pub mod Same
 pub mod Own
 pub mod Size
+pub mod Limits
 pub mod NotFinite
 pub mod Dyadic
 pub mod Neg

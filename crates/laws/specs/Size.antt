@@ -43,7 +43,7 @@ widened (fin s m e) n d n' d' D h l =
     D
 
 -- ---- what is compared
-lt-or-eq : (a b : ℕ) → T (ltb a b || (eqb a b && true)) → a ≤ b
+pub lt-or-eq : (a b : ℕ) → T (ltb a b || (eqb a b && true)) → a ≤ b
 lt-or-eq a b t = elim (or-split (ltb a b) (eqb a b && true) t) [ inl u ↦ le-of-lt (ltb→lt a b u) | inr u ↦ le-of-eq (eqb→eq a b (and-l (eqb a b) true u)) ]
 
 no-size : (a d n : ℕ) → 0 * a * d ≤ n
@@ -62,13 +62,13 @@ le-at-most (fin true (suc m) e) p k u h = absurd u
 le-at-most (fin false m e) p k u h = lt-or-eq (m * up e * down k) (p * up k * down e) h
 
 -- ---- what is rounded: at most what a larger fraction is rounded to, and at most twice the fraction
-of-unsigned : (v : Float) → T (unsigned v) → T (not (underZero v))
+pub of-unsigned : (v : Float) → T (unsigned v) → T (not (underZero v))
 of-unsigned nan u = tt
 of-unsigned (inf s) u = u
 of-unsigned (fin s zero e) u = tt
 of-unsigned (fin s (suc m) e) u = u
 
-neg-at-most : (v : Float) (n d : ℕ) → AtMost n d v → AtMost n d (neg v)
+pub neg-at-most : (v : Float) (n d : ℕ) → AtMost n d v → AtMost n d (neg v)
 unfolding neg
 neg-at-most nan n d h = h
 neg-at-most (inf s) n d h = h
@@ -78,7 +78,7 @@ either-sign : (s : Bool) (a c n d : ℕ) → AtMost n d (round binary32 false a 
 either-sign false a c n d h = h
 either-sign true a c n d h = subst (λ (v : Float). AtMost n d v) (sym (round-neg binary32 false a c)) (neg-at-most (round binary32 false a c) n d h)
 
-round-at-most : (s : Bool) (a c b d p : ℕ) (k : ℤ) → 0 < c → 0 < d → a * d ≤ b * c → round binary32 false b d ≡ fin false p k → AtMost (p * up k) (down k) (round binary32 s a c)
+pub round-at-most : (s : Bool) (a c b d p : ℕ) (k : ℤ) → 0 < c → 0 < d → a * d ≤ b * c → round binary32 false b d ≡ fin false p k → AtMost (p * up k) (down k) (round binary32 s a c)
 round-at-most s a c b d p k C D h e =
     either-sign s a c (p * up k) (down k)
     (le-at-most (round binary32 false a c) p k (of-unsigned (round binary32 false a c) (unsigned-round binary32 a c))
@@ -116,7 +116,7 @@ module _ (X Y : ℕ) (P : 0 < Y) where
       (le-of-mul-le-mul-right (le-trans at-most-twice (le-trans (le-of-eq (mul-assoc X 2 (2 ^ 149))) (le-trans (mul-le-mul-right (2 * 2 ^ 149) h) (le-of-eq (mul-comm Y (2 * 2 ^ 149)))))) P)
       (lit< {m = 2 * 2 ^ 149} {n = 2 ^ 277} tt)
 
-  round-twice : (s : Bool) → X ≤ Y → AtMost (X * 2) Y (round binary32 s X Y)
+  pub round-twice : (s : Bool) → X ≤ Y → AtMost (X * 2) Y (round binary32 s X Y)
   round-twice s h =
       either-sign s X Y (X * 2) Y
       (subst (λ (v : Float). AtMost (X * 2) Y v) (sym (round-is binary32 false X Y))

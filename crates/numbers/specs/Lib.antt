@@ -3,6 +3,7 @@ pub mod WordsLaws
 pub mod Select
 pub mod Order
 pub mod SelectLaws
+pub mod Limits
 pub mod Whole
 pub mod WholeLaws
 pub mod Rising

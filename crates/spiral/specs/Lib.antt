@@ -2,3 +2,4 @@ pub mod Util
 pub mod Euler
 pub mod Points
 pub mod Answers
+pub mod Straight

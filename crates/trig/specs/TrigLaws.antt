@@ -143,7 +143,7 @@ neg-minus-one : neg minusOne ≡ one
 unfolding neg ofBits
 neg-minus-one = refl
 
-abs-inside : (x : Float) → T (le minusOne x) → T (le x one) → T (le (absOf x) one)
+pub abs-inside : (x : Float) → T (le minusOne x) → T (le x one) → T (le (absOf x) one)
 unfolding absOf signed
 abs-inside x h k = go (signOf x)
   where

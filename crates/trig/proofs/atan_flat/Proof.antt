@@ -3,7 +3,7 @@ use mathlib.Core.Path.{sym, subst}
 use lib.Dec.{T}
 use lib.Ieee.{ofBits}
 use borrow.Author.Needs.{needs}
-use Rattle.trig.proofs.Flat.{flat}
+use Rattle.trig.specs.Flat.{flat}
 use Rattle.trig.proofs.atan_flat.Statement.{statement}
 use Rattle.trig.proofs.atan_flat.Tie as tie
 

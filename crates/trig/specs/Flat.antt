@@ -3,17 +3,17 @@
 use mathlib.Core.Path.{_≡_, refl}
 use mathlib.Core.Bool.{true, false}
 use Prim.Native.Nat.{ℕ, zero, suc, _+_, _*_, _^_, _≤_, _<_}
-use native.Mathlib.Nat.{le-trans, le-of-eq, le-of-lt, le-refl, mul-pos}
+use native.Mathlib.Nat.{le-of-lt, le-refl, mul-pos}
 use native.Mathlib.Omega.{arith}
 use lib.IntN.{ℤ, pos, negsuc}
-use lib.Dec.{T, ltb, ltb→lt, lit≤}
+use lib.Dec.{T, ltb→lt, lit≤}
 use lib.Pow.{pow-pos}
 use lib.Ieee.{Float, nan, inf, fin, binary32, up, down, round, ofBits, add, lt, fits}
 use lib.Ieee.Fits.{down-pos}
 use Rattle.laws.specs.Binary32.{_⊕_, _⊗_, f32}
 use Rattle.laws.specs.Size.{AtMost, mul-at-most, mul-twice, add-at-most}
 use Rattle.trig.specs.Trig.{atanNear}
-use Rattle.trig.proofs.Steady.{steady}
+use Rattle.trig.specs.Steady.{steady}
 
 -- K * z + L, of a small z
 term : (K L z : Float) (c d p : ℕ) (j k : ℤ) → 0 < c → 0 < d → AtMost 1 c K → AtMost 1 d L → AtMost 1 (2 ^ 28) z → round binary32 false (1 * 1) (c * 2 ^ 28) ≡ fin false 1 j → round binary32 false (1 * up j * d + 1 * down j) (down j * d) ≡ fin false p k → AtMost (p * up k) (down k) (K ⊗ z ⊕ L)

@@ -1,22 +1,21 @@
 -- A sum with something 2 ^ 27 times smaller is the larger one (`steady`). Assumes nothing.
 use mathlib.Core.Path.{_≡_, refl, sym, ap, _∙_, subst}
-use mathlib.Core.Logic.{_⊎_, inl, inr}
 use mathlib.Core.Bool.{Bool, true, false, cond}
 use Prim.Native.Nat.{ℕ, zero, suc, _+_, _-_, _*_, _/_, _%_, _^_, _≤_, _<_, compare}
-use native.Mathlib.Nat.{le-trans, le-of-eq, le-of-lt, le-of-suc-le-suc, lt-of-lt-of-le, lt-of-le-of-lt, lt-of-not-le, lt-irrefl, mul-one, mul-comm, mul-assoc, mul-left-comm, mul-right-comm, mul-pos, mul-le-mul, mul-le-mul-right, mul-le-mul-left, le-of-mul-le-mul-right, lt-of-mul-lt-mul-right, mul-lt-mul-of-pos-right, div-mul-le-self, div-lt-iff-lt-mul, div-add-mod', mod-lt, pow-succ', zero-lt-suc, eq-zero-or-pos, add-mul, eq-of-mul-eq-mul-right}
+use native.Mathlib.Nat.{le-trans, le-of-eq, le-of-suc-le-suc, lt-of-lt-of-le, lt-of-le-of-lt, lt-of-not-le, mul-comm, mul-assoc, mul-right-comm, mul-pos, mul-le-mul-right, lt-of-mul-lt-mul-right, mul-lt-mul-of-pos-right, div-mul-le-self, div-lt-iff-lt-mul, div-add-mod', zero-lt-suc, add-mul, eq-of-mul-eq-mul-right}
 use native.Mathlib.Decide.{decLt}
 use native.Mathlib.Omega.{arith}
 use lib.Arith.{digits-div}
-use lib.IntN.{ℤ, pos, negsuc}
-use lib.Dec.{T, ltb, lit<}
+use lib.IntN.{ℤ}
+use lib.Dec.{T, ltb}
 use borrow.Author.Tests.{lt-ltb}
 use lib.Pow.{pow-pos, pow-add, pow-mono}
-use lib.Ieee.{Float, nan, inf, fin, binary32, up, down, size, nearest, units, round, sum, add, fits}
+use lib.Ieee.{Float, fin, binary32, up, down, size, nearest, round, sum, add, fits}
 use lib.Ieee.Exact.{HasValue, units-val}
 use lib.Ieee.Fits.{down-pos, up-pos, round-is, round-fits}
 use lib.Ieee.Digits.{back, size-lt, size-reaches}
 use lib.Ieee.Nearest.{closest}
-use Rattle.laws.specs.Own.{Fitting, fits-says, pow-le-back, value-unique}
+use Rattle.laws.specs.Own.{Fitting, fits-says, shift, shift-is, value-unique}
 use Rattle.roots.specs.Laws.{below, above}
 
 -- ---- the nearest whole number of n / d is j, if n is less than half of d away from j * d
@@ -135,19 +134,6 @@ module _ (M i C n : ℕ) (P : 0 < C) (short : M < 16777216) (high : n * 13421772
   ]
 
 -- ---- the same of fractions: N / C is rounded to a float of the value A / C
-place : ℤ → ℕ
-place (pos j) = j + 149
-place (negsuc j) = 149 - suc j
-
-place-is : (m : ℕ) (e : ℤ) → down e ≤ 2 ^ 149 → m * up e * 2 ^ 149 ≡ m * 2 ^ place e * down e
-unfolding place
-place-is m (pos j) h = mul-assoc m (2 ^ j) (2 ^ 149) ∙ ap (λ (z : ℕ). m * z) (sym (pow-add 2 j 149)) ∙ sym (mul-one (m * 2 ^ (j + 149)))
-place-is m (negsuc j) h =
-    ap (λ (z : ℕ). z * 2 ^ 149) (mul-one m)
-    ∙ ap (λ (z : ℕ). m * 2 ^ z) (sym (back 149 (suc j) (pow-le-back (suc j) 149 h)))
-    ∙ ap (λ (z : ℕ). m * z) (pow-add 2 (149 - suc j) (suc j))
-    ∙ sym (mul-assoc m (2 ^ (149 - suc j)) (2 ^ suc j))
-
 scaled-high : (N A L : ℕ) → N * 134217728 ≤ A * 134217729 → N * L * 134217728 ≤ A * L * 134217729
 scaled-high N A L h = le-trans (le-of-eq (mul-right-comm N L 134217728)) (le-trans (mul-le-mul-right L h) (le-of-eq (mul-right-comm A 134217729 L)))
 
@@ -160,31 +146,31 @@ module _ (m : ℕ) (e : ℤ) (F : T (fits binary32 (fin false (suc m) e))) (N A 
   says : Fitting binary32 (suc m) e
   says = fits-says binary32 false m e F
 
-  its-units : suc m * up e * 2 ^ 149 ≡ suc m * 2 ^ place e * down e
-  its-units = place-is (suc m) e (says .fine)
+  its-units : suc m * up e * 2 ^ 149 ≡ suc m * 2 ^ shift binary32 e * down e
+  its-units = shift-is binary32 (suc m) e (says .fine)
 
-  in-units : A * 2 ^ 149 ≡ suc m * 2 ^ place e * C
+  in-units : A * 2 ^ 149 ≡ suc m * 2 ^ shift binary32 e * C
   in-units =
-      eq-of-mul-eq-mul-right (down e) (down-pos e) (A * 2 ^ 149) (suc m * 2 ^ place e * C)
-      (mul-right-comm A (2 ^ 149) (down e) ∙ ap (λ (z : ℕ). z * 2 ^ 149) value ∙ mul-right-comm (suc m * up e) C (2 ^ 149) ∙ ap (λ (z : ℕ). z * C) its-units ∙ mul-right-comm (suc m * 2 ^ place e) (down e) C)
+      eq-of-mul-eq-mul-right (down e) (down-pos e) (A * 2 ^ 149) (suc m * 2 ^ shift binary32 e * C)
+      (mul-right-comm A (2 ^ 149) (down e) ∙ ap (λ (z : ℕ). z * 2 ^ 149) value ∙ mul-right-comm (suc m * up e) C (2 ^ 149) ∙ ap (λ (z : ℕ). z * C) its-units ∙ mul-right-comm (suc m * 2 ^ shift binary32 e) (down e) C)
 
   abbrev kept : ℕ
   kept = size (N * 2 ^ 149 / C) - 24
 
-  is-settled : closest (N * 2 ^ 149) (C * 2 ^ kept) * 2 ^ kept ≡ suc m * 2 ^ place e
+  is-settled : closest (N * 2 ^ 149) (C * 2 ^ kept) * 2 ^ kept ≡ suc m * 2 ^ shift binary32 e
   is-settled =
-      settled (suc m) (place e) C (N * 2 ^ 149) P (says .small)
+      settled (suc m) (shift binary32 e) C (N * 2 ^ 149) P (says .small)
       (subst (λ (z : ℕ). N * 2 ^ 149 * 134217728 ≤ z * 134217729) in-units (scaled-high N A (2 ^ 149) high))
       (subst (λ (z : ℕ). z * 134217728 ≤ N * 2 ^ 149 * 134217728 + z) in-units (scaled-low N A (2 ^ 149) low))
 
-  not-large : suc m * 2 ^ place e < 2 ^ 277
+  not-large : suc m * 2 ^ shift binary32 e < 2 ^ 277
   not-large =
       lt-of-mul-lt-mul-right (down e)
       (lt-of-le-of-lt (le-of-eq (sym its-units)) (lt-of-lt-of-le (mul-lt-mul-of-pos-right (says .under) (pow-pos 149)) (le-of-eq (mul-right-comm (2 ^ 128) (down e) (2 ^ 149)))))
 
   round-near : round binary32 false N C ≡ fin false (suc m) e
   round-near =
-      value-unique binary32 (round binary32 false N C) (fin false (suc m) e) false (suc m * 2 ^ place e) (2 ^ 149) (pow-pos 149) (round-fits binary32 false N C) F
+      value-unique binary32 (round binary32 false N C) (fin false (suc m) e) false (suc m * 2 ^ shift binary32 e) (2 ^ 149) (pow-pos 149) (round-fits binary32 false N C) F
       (subst (λ (z : ℕ). HasValue (round binary32 false N C) false z (2 ^ 149)) is-settled
       (subst (λ (v : Float). HasValue v false (closest (N * 2 ^ 149) (C * 2 ^ kept) * 2 ^ kept) (2 ^ 149)) (sym (round-is binary32 false N C))
       (units-val binary32 false (closest (N * 2 ^ 149) (C * 2 ^ kept)) kept (subst (λ (z : ℕ). z < 2 ^ 277) (sym is-settled) not-large))))
