@@ -16,13 +16,28 @@ use crate::cube::cbrt_bits;
 use crate::cube::two_thirds_bits;
 use crate::format::pattern;
 use crate::square::sqrt_bits;
+use crate::square::sqrt_digits;
 use crate::sum::hypot_bits;
 use crate::sum::sorted;
 ghost use mathlib.Core.Path.{_≡_};
 ghost use Rattle.roots.specs.Root.{sqrtOf, cbrtOf, twoThirdsOf, hypotOf};
 
-// The square root. NaN below zero; a zero keeps its sign.
+// The square root. NaN below zero; a zero keeps its sign. A number above zero that is finite and not subnormal is told by one test.
 pub fn sqrt(x: f32) -> f32
+    ensures { λ r. ⌜ r ≡ sqrtOf x ⌝ }
+{
+    if x != x {
+        return x;
+    }
+    let b = f32::to_bits(x);
+    if std::num::wrapping_sub_u32(b, 0x80_0000) < 0x7f00_0000 {
+        return f32::from_bits(sqrt_bits(b));
+    }
+    sqrt_rest(x)
+}
+
+// The square root of anything.
+fn sqrt_rest(x: f32) -> f32
     ensures { λ r. ⌜ r ≡ sqrtOf x ⌝ }
 {
     if x != x {
@@ -37,7 +52,7 @@ pub fn sqrt(x: f32) -> f32
         return 0.0 / 0.0;
     }
     if a < 0x7f80_0000 {
-        return f32::from_bits(sqrt_bits(a));
+        return f32::from_bits(sqrt_digits(a));
     }
     x
 }
