@@ -132,14 +132,6 @@ pub(crate) fn pack(s: Root, c: u64) -> u32
     }
 }
 
-// The pattern of the f64 with the value of the f32 with the pattern b, where that is not subnormal: only a candidate is made of it.
-pub(crate) fn widened(b: u32) -> u64
-    requires { ⌜ b < 0x7f80_0000 ⌝ }
-    ensures { λ i. ⌜ i < 0x7ff0_0000_0000_0000 ⌝ }
-{
-    b as u64 * 0x2000_0000 + 0x3800_0000_0000_0000
-}
-
 // The first 24 binary digits of s, rounded: a candidate. The sum is a wrapping one only so that nothing need be known of s.
 pub(crate) fn leading(s: f64) -> u64
     ensures { λ q. ⌜ (2 ^ 23 ≤ q) × (q < 2 ^ 24) ⌝ }

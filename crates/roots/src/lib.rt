@@ -18,6 +18,7 @@ use crate::format::pattern;
 use crate::square::sqrt_bits;
 use crate::square::sqrt_digits;
 use crate::sum::hypot_bits;
+use crate::sum::hypot_near;
 use crate::sum::sorted;
 ghost use mathlib.Core.Path.{_≡_};
 ghost use Rattle.roots.specs.Root.{sqrtOf, cbrtOf, twoThirdsOf, hypotOf};
@@ -98,6 +99,17 @@ pub fn two_thirds(x: f32) -> f32
 
 // The root of x² + y². An infinity beside a NaN is an infinity.
 pub fn hypot(x: f32, y: f32) -> f32
+    ensures { λ r. ⌜ r ≡ hypotOf x y ⌝ }
+{
+    let r = hypot_near(x, y);
+    if r == 0 {
+        return hypot_rest(x, y);
+    }
+    f32::from_bits(r)
+}
+
+// The same with no candidate.
+fn hypot_rest(x: f32, y: f32) -> f32
     ensures { λ r. ⌜ r ≡ hypotOf x y ⌝ }
 {
     let a = pattern(x);
