@@ -58,23 +58,23 @@ pub(crate) fn sqrt_digits(b: u32) -> u32
     pack(s, (t - 23) / 2)
 }
 
-// 24 digits that may be those of the square root of the f64 with the pattern i: its caller checks them. With b within 2 ^ -10 of the reciprocal root, t is as
-// near to the root and r is small; the root is t (1 - r) ^ (-1/2), of which three terms are within 2 ^ -30.
+// 24 digits that may be those of the square root of the f64 with the pattern i: its caller checks them. b is within 2 ^ -10 of the reciprocal root, so w is near 1;
+// the root is t / √w, and 1 / √w to the second order about 1 is within 2 ^ -30.
 pub(crate) fn guess2(i: u64) -> u64
     requires { ⌜ i < 0x7ff0_0000_0000_0000 ⌝ }
     ensures { λ q. ⌜ (2 ^ 23 ≤ q) × (q < 2 ^ 24) ⌝ }
 {
     let v = f64::from_bits(i);
-    let a = f64::from_bits(0x5fe3_ffff_2000_0000 - i / 2);
+    let a = f64::from_bits(0x5fe4_0000_0000_0000 - i / 2);
     let b = a * (1.6819141 - v * 0.703952253 * a * a);
     let t = v * b;
-    let r = 1.0 - t * b;
-    leading(t + t * r * (0.5 + 0.375 * r))
+    let w = t * b;
+    leading(t * (1.875 - w * (1.25 - 0.375 * w)))
 }
 
 // The pattern of the f32 nearest to the square root of an f64, or 0 where a candidate q does not settle it. The f64's pattern is j past that of 2 ^ -252, the least whose
 // root is no subnormal. The f64 is s * 4 ^ d with s of 47 or 48 digits and a fraction dropped, and q is the nearest where (q - 1/2)² < s and s + 1 < (q + 1/2)²,
-// that is q² - q < s < q² + q: one comparison, since a difference below zero wraps to a large one.
+// that is q² - q < s < q² + q. One comparison tells it of all such s but the largest: a difference below zero wraps to a large one.
 pub(crate) fn near(j: u64) -> u32
     requires { ⌜ j < 508 * 2 ^ 52 ⌝ }
     ensures { λ r. ⌜ (r ≡ 0) ⊎ Settled j r ⌝ }
@@ -82,7 +82,8 @@ pub(crate) fn near(j: u64) -> u32
     let q = guess2(j + 0x3030_0000_0000_0000);
     let m = j % 0x10_0000_0000_0000 + 0x10_0000_0000_0000;
     let s = (m << j / 0x10_0000_0000_0000 % 2) / 64;
-    if std::num::wrapping_sub_u64(s + q - 1, q * q) < q * 2 - 1 {
+    let h = q - 1;
+    if std::num::wrapping_sub_u64(s + h, q * q) / 2 < h {
         return (j / 0x20_0000_0000_0000 * 0x80_0000 + q) as u32;
     }
     0

@@ -34,7 +34,5 @@ near-spec =
     (λ c. search needs)
     (λ c. search needs)
     (λ c. search needs)
-    (λ c. search needs)
-    (λ c. search needs)
     returns
     returns-2)
