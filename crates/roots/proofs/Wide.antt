@@ -6,15 +6,15 @@ use Prim.Native.Nat.{ℕ, zero, suc, _+_, _-_, _*_, _/_, _%_, _^_, _≤_, _<_, m
 use native.Mathlib.Nat.{le-trans, le-of-eq, le-of-lt, lt-of-lt-of-le, lt-of-le-of-lt, lt-of-not-le, lt-irrefl, le-of-suc-le-suc, add-comm, zero-add, add-mul, mul-one, mul-assoc, mul-le-mul-right, mul-lt-mul-of-pos-right, mul-pos, le-of-mul-le-mul-right, div-mul-le-self}
 use native.Mathlib.Omega.{arith}
 use native.Mathlib.Decide.{decLt}
-use lib.Dec.{T, eqb, lit<}
+use lib.Dec.{T, ltb, eqb, lit<}
 use lib.Pow.{pow-add, pow-pos, pow-mono, shl-lt}
 use borrow.Author.Tests.{lt-leb, ne-eqb}
-use lib.Ieee.{Float, nan, inf, fin, binary32, binary64, unlike, odd, round, add, mul, ofBits, toBits, ofFields, fits, isNan}
+use lib.Ieee.{Float, nan, inf, fin, Format, prec, emax, low, binary32, binary64, unlike, odd, units, round, sum, add, mul, ofBits, toBits, ofFields, fits, isNan}
 use lib.Ieee.Bits.{ofBits-toBits}
 use lib.Ieee.Exact.{HasValue, odd-sign, round-exact}
-use lib.Ieee.Fits.{add-fits}
+use lib.Ieee.Fits.{add-fits, round-is}
 use lib.Ieee.Order.{round-mono}
-use lib.Ieee.Scale.{round-same, finite}
+use lib.Ieee.Scale.{round-same}
 use Rattle.laws.specs.Dyadic.{mul-value, add-value, le-values}
 use Rattle.laws.specs.NotFinite.{Stray, stray-add, add-stray, stray-mul}
 use Rattle.roots.specs.Root.{hypotOf}
@@ -106,6 +106,59 @@ sum-value x y a b C P v w =
     add-value binary64 x y false a C b C P P v w
     ∙ round-same binary64 false (a * C + b * C) (C * C) (a + b) C (mul-pos P P) P (ap (λ (z : ℕ). z * C) (sym (add-mul a b C)) ∙ mul-assoc (a + b) C C)
 
+-- ---- a sum of squares is no NaN: a square has no minus sign
+
+abbrev plus : Float → Bool
+plus nan = false
+plus (inf s) = not s
+plus (fin s m e) = not s
+
+plus-odd : (d q k l : ℕ) → T (plus (odd d false q k l))
+unfolding odd
+plus-odd d zero k l = tt
+plus-odd d (suc q) k l = tt
+
+plus-units : (f : Format) (q k : ℕ) → T (plus (units f false q k))
+unfolding units
+plus-units f q k = go (ltb (q * 2 ^ k) (2 ^ (low f + suc (emax f))))
+  where
+    go : (b : Bool) → T (plus (cond b (odd (suc (prec f)) false q k (low f)) (inf false)))
+    go true = plus-odd (suc (prec f)) q k (low f)
+    go false = tt
+
+plus-round : (f : Format) (s : Bool) (a c : ℕ) → s ≡ false → T (plus (round f s a c))
+plus-round f s a c e = subst (λ (t : Bool). T (plus (round f t a c))) (sym e) (subst (λ (v : Float). T (plus v)) (sym (round-is f false a c)) (plus-units f _ _))
+
+plus-square : (f : Format) (x : Float) → T (not (isNan x)) → T (plus (mul f x x))
+unfolding mul isNan
+plus-square f nan h = absurd h
+plus-square f (inf true) h = tt
+plus-square f (inf false) h = tt
+plus-square f (fin s m e) h = plus-round f (unlike s s) _ _ (like s)
+
+plus-add : (f : Format) (x y : Float) → T (plus x) → T (plus y) → T (plus (add f x y))
+unfolding add sum
+plus-add f nan y h k = absurd h
+plus-add f (inf true) y h k = absurd h
+plus-add f (inf false) nan h k = absurd k
+plus-add f (inf false) (inf true) h k = absurd k
+plus-add f (inf false) (inf false) h k = tt
+plus-add f (inf false) (fin t n d) h k = tt
+plus-add f (fin s m e) nan h k = absurd k
+plus-add f (fin s m e) (inf t) h k = k
+plus-add f (fin true m e) (fin t n d) h k = absurd h
+plus-add f (fin false m e) (fin true n d) h k = absurd k
+plus-add f (fin false m e) (fin false n d) h k = plus-round f false _ _ refl
+
+plus-number : (x : Float) → T (plus x) → T (not (isNan x))
+unfolding isNan
+plus-number nan h = absurd h
+plus-number (inf s) h = tt
+plus-number (fin s m e) h = tt
+
+pub sum-number : (x y : Float) → T (not (isNan x)) → T (not (isNan y)) → T (not (isNan (add binary64 (mul binary64 x x) (mul binary64 y y))))
+sum-number x y N O = plus-number _ (plus-add binary64 _ _ (plus-square binary64 x N) (plus-square binary64 y O))
+
 -- ---- between which numbers the sum A lies, by the digits of what it is rounded to
 
 module _ (A j : ℕ) (J : j < 508 * 2 ^ 52) (W : HasValue (round binary64 false A (2 ^ 298)) false ((j % 2 ^ 52 + 2 ^ 52) * 2 ^ (j / 2 ^ 52 + 770)) (2 ^ 1074)) where
@@ -145,16 +198,16 @@ module _ (A j : ℕ) (J : j < 508 * 2 ^ 52) (W : HasValue (round binary64 false 
       (lt-of-lt-of-le (shl-lt 53 (2 * D + u) h) (pow-mono {i = 53 + (2 * D + u)} {j = 2098} (omega arith)))
       (rescaled n (2 * D) 1074 (2 * D + u) (298 + k) (omega arith))
 
-  pub high : A < suc (topDigits j) * 2 ^ (2 * D)
-  high = lt-of-not-le (λ (h : suc (topDigits j) * 2 ^ (2 * D) ≤ A).
+  pub sum-high : A < suc (topDigits j) * 2 ^ (2 * D)
+  sum-high = lt-of-not-le (λ (h : suc (topDigits j) * 2 ^ (2 * D) ≤ A).
       let n = suc (topDigits j) in
       let l = le-values (round binary64 false (n * 2 ^ (2 * D)) (2 ^ 298)) (round binary64 false A (2 ^ 298)) (n * 2 ^ (2 * D)) (2 ^ 298) value (2 ^ 1074) (pow-pos 298) (pow-pos 1074)
       (exact n 0 776 (lt-of-le-of-lt (top-lt j) (lit< tt)) refl) W (round-mono binary64 (n * 2 ^ (2 * D)) (2 ^ 298) A (2 ^ 298) (pow-pos 298) (pow-pos 298) (mul-le-mul-right (2 ^ 298) h)) in
       lt-irrefl (value * 2 ^ 298)
       (lt-of-lt-of-le (mul-lt-mul-of-pos-right value-lt (pow-pos 298)) (le-trans (le-of-eq (sym (rescaled n (2 * D) 1074 (2 * D + 776) 298 (omega arith)))) l)))
 
-  pub low : topDigits j * 4 * 2 ^ (2 * D) < A * 4 + 2 ^ (2 * D)
-  low = lt-of-not-le (λ (h : A * 4 + 2 ^ (2 * D) ≤ topDigits j * 4 * 2 ^ (2 * D)).
+  pub sum-low : topDigits j * 4 * 2 ^ (2 * D) < A * 4 + 2 ^ (2 * D)
+  sum-low = lt-of-not-le (λ (h : A * 4 + 2 ^ (2 * D) ≤ topDigits j * 4 * 2 ^ (2 * D)).
       let n = topDigits j * 4 - 1 in
       let l = le-values (round binary64 false A (2 ^ 298)) (round binary64 false (n * 2 ^ (2 * D)) (2 ^ 300)) value (2 ^ 1074) (n * 2 ^ (2 * D)) (2 ^ 300) (pow-pos 1074) (pow-pos 300) W
       (exact n 2 774 (few (topDigits j) (top-lt j)) refl) (round-mono binary64 A (2 ^ 298) (n * 2 ^ (2 * D)) (2 ^ 300) (pow-pos 298) (pow-pos 300) (quarter A (topDigits j) (2 ^ (2 * D)) (2 ^ 298) (top-ge j) h)) in
@@ -243,5 +296,5 @@ module _ (x y : Float) (F : T (fits binary32 x)) (G : T (fits binary32 y)) (N : 
     hypot-settled r S =
         let A = both (magBits a) (magBits b) in
         let W = subst (λ (u : Float). HasValue u false ((j % 2 ^ 52 + 2 ^ 52) * 2 ^ (j / 2 ^ 52 + 770)) (2 ^ 1074)) v-is v-value in
-        let z = sum-settled A j r J S (low A j J W) (high A j J W) in
+        let z = sum-settled A j r J S (sum-low A j J W) (sum-high A j J W) in
         (le-of-lt (z .0), pair-of x y r F G a-lt b-lt (z .1))

@@ -81,9 +81,6 @@ pub(crate) fn hypot_near(x: f32, y: f32) -> u32
     let e = x as f64;
     let f = y as f64;
     let v = e * e + f * f;
-    if v != v {
-        return 0;
-    }
     let j = std::num::wrapping_sub_u64(f64::to_bits(v), 0x3030_0000_0000_0000);
     if j < 0x1fc0_0000_0000_0000 {
         return near(j);

@@ -6,7 +6,7 @@ use lib.Dec.{T}
 use lib.Ieee.{Float, binary32, binary64, fits, isNan}
 use lib.Ieee.Fits.{and-i, fits-widens}
 use Rattle.roots.proofs.Patterns.{is-number}
-use Rattle.roots.proofs.Wide.{zero-side, far-side, hypot-settled}
+use Rattle.roots.proofs.Wide.{sum-number, zero-side, far-side, hypot-settled}
 use borrow.Author.Needs.{needs}
 use Rattle.roots.proofs.sum.hypot_near.Statement.{statement}
 use Rattle.roots.proofs.sum.hypot_near.Tie as tie
@@ -45,16 +45,16 @@ float-to-float-f : tie.Need-float-to-float-f
 float-to-float-f c = widens _ (held-y (c .before .before .before .before .before .before)) (is-number _ (c .before .before .before .before .if2 .left))
 
 float-to-bits-wrapping-sub-u64 : tie.Need-float-to-bits-wrapping-sub-u64
-float-to-bits-wrapping-sub-u64 c = is-number _ (c .if5 .left)
+float-to-bits-wrapping-sub-u64 c = sum-number _ _ (is-number _ (c .before .before .before .before .before .if1 .left)) (is-number _ (c .before .before .before .before .if2 .left))
 
-returns-6 : tie.Need-returns-6
-returns-6 c =
-    let o = c .before .before .before .before .before .before .before .before .before .before in
-    let N = is-number _ (c .before .before .before .before .before .before .before .before .before .if1 .left) in
-    let O = is-number _ (c .before .before .before .before .before .before .before .before .if2 .left) in
+returns-5 : tie.Need-returns-5
+returns-5 c =
+    let o = c .before .before .before .before .before .before .before .before .before in
+    let N = is-number _ (c .before .before .before .before .before .before .before .before .if1 .left) in
+    let O = is-number _ (c .before .before .before .before .before .before .before .if2 .left) in
     elim (c .near .ensures) [
       | inl z ↦ inl z
-      | inr s ↦ inr (hypot-settled (o .args .x) (o .args .y) (held-x o) (held-y o) N O _ (c .before .if6 .taken) (c .before .before .wrapping-sub-u64 .ensures) _ s)
+      | inr s ↦ inr (hypot-settled (o .args .x) (o .args .y) (held-x o) (held-y o) N O _ (c .before .if5 .taken) (c .before .before .wrapping-sub-u64 .ensures) _ s)
     ]
 
 pub hypot-near-spec : {M : Type 1} → statement M
@@ -70,9 +70,8 @@ hypot-near-spec =
     returns-4
     float-to-float-e
     float-to-float-f
-    (λ c. inl refl)
     float-to-bits-wrapping-sub-u64
     (λ c κs. search needs)
     (λ c κs. search needs)
-    returns-6
+    returns-5
     (λ c. inl refl))
