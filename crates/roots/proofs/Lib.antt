@@ -7,4 +7,5 @@ pub mod Squares
 pub mod Sums
 pub mod Products
 pub mod Candidates
+pub mod Wide
 pub mod Cubes

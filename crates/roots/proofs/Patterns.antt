@@ -2,7 +2,7 @@
 use mathlib.Core.Path.{_≡_, refl, sym, ap, _∙_, subst}
 use mathlib.Core.Bool.{Bool, true, false, not, cond, true≢false}
 use Prim.Native.Nat.{ℕ, zero, suc, _+_, _-_, _*_, _/_, _%_, _^_, _≤_, _<_}
-use native.Mathlib.Nat.{lt-irrefl, mul-one, zero-mul, mul-pos, add-comm, zero-lt-suc}
+use native.Mathlib.Nat.{lt-irrefl, mul-one, zero-mul, mul-pos, add-comm, zero-add, zero-lt-suc}
 use native.Mathlib.Omega.{arith}
 use lib.Dec.{T, T, leb, ltb, eqb, nltb→le, leb→le, nleb→lt}
 use lib.Pow.{pow-pos}
@@ -13,7 +13,7 @@ use lib.Ieee.Exact.{HasValue, odd-sign}
 use lib.Ieee.Fits.{down-pos, up-pos}
 use lib.Ieee.Bits.{ofBits-toBits, toBits-lt, nanBits-is, nanBits-above}
 use Rattle.roots.specs.Root.{mag, cbrtOf, hypotOf, nearestRoot}
-use Rattle.roots.specs.Parts.{magBits}
+use Rattle.roots.specs.Parts.{magBits, rootBits}
 use Rattle.roots.specs.Laws.{mag-is}
 use Rattle.laws.specs.Nan.{nan-is}
 
@@ -160,7 +160,13 @@ hypot-of (fin u m e) nan s t a b h k = absurd k
 hypot-of (fin u m e) (inf z) s t a b h k = absurd k
 hypot-of (fin u m e) (fin z n d) s t a b h k = ap (λ (x : ℕ). nearestRoot false 2 (x * x + mag n d * mag n d)) (mag-is m e a (h .1)) ∙ ap (λ (x : ℕ). nearestRoot false 2 (a * a + x * x)) (mag-is n d b (k .1))
 
-inf-pattern : (s : Bool) → toBits binary32 (inf s) % 2 ^ 31 ≡ 0x7f80_0000
+-- by the patterns of two finite numbers
+pub pair-of : (x y : Float) (r : ℕ) → T (fits binary32 x) → T (fits binary32 y) → toBits binary32 x % 2 ^ 31 < 0x7f80_0000 → toBits binary32 y % 2 ^ 31 < 0x7f80_0000
+    → rootBits 2 (magBits (toBits binary32 x % 2 ^ 31) * magBits (toBits binary32 x % 2 ^ 31) + magBits (toBits binary32 y % 2 ^ 31) * magBits (toBits binary32 y % 2 ^ 31)) r
+    → ofBits binary32 r ≡ hypotOf x y
+pair-of x y r F G A B R = ap (λ (n : ℕ). ofBits binary32 n) (sym (zero-add r)) ∙ R .right false ∙ sym (hypot-of x y _ _ _ _ (worth x F A) (worth y G B))
+
+pub inf-pattern : (s : Bool) → toBits binary32 (inf s) % 2 ^ 31 ≡ 0x7f80_0000
 unfolding toBits
 inf-pattern true = refl
 inf-pattern false = refl

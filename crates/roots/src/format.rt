@@ -132,20 +132,12 @@ pub(crate) fn pack(s: Root, c: u64) -> u32
     }
 }
 
-// The pattern of the f64 with the value of the f32 with the pattern b, where that is not subnormal: only a candidate is made of it.
-pub(crate) fn widened(b: u32) -> u64
-    requires { ⌜ b < 0x7f80_0000 ⌝ }
-    ensures { λ i. ⌜ i < 0x7ff0_0000_0000_0000 ⌝ }
-{
-    b as u64 * 0x2000_0000 + 0x3800_0000_0000_0000
-}
-
-// The first 24 binary digits of s, rounded: a candidate.
+// The first 24 binary digits of s, rounded: a candidate. The sum is a wrapping one only so that nothing need be known of s.
 pub(crate) fn leading(s: f64) -> u64
-    ensures { λ q. ⌜ (2 ^ 23 ≤ q) × (q ≤ 2 ^ 24) ⌝ }
+    ensures { λ q. ⌜ (2 ^ 23 ≤ q) × (q < 2 ^ 24) ⌝ }
 {
     if s != s {
         return 0x80_0000;
     }
-    (f64::to_bits(s) % 0x10_0000_0000_0000 + 0x1000_0000) / 0x2000_0000 + 0x80_0000
+    std::num::wrapping_add_u64(f64::to_bits(s), 0x1000_0000) / 0x2000_0000 % 0x80_0000 + 0x80_0000
 }

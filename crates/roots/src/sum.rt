@@ -1,14 +1,15 @@
 // Roots of the sum of two squares: by a candidate that is checked, and digit by digit.
-use crate::format::Parts;
 use crate::format::Root;
 use crate::format::fields;
 use crate::format::pack;
-use crate::format::widened;
 use crate::square::feed2;
-use crate::square::guess2;
+use crate::square::near;
 ghost use mathlib.Core.Path.{_≡_};
+ghost use mathlib.Core.Logic.{_⊎_};
+ghost use lib.Ieee.{ofBits, binary32};
+ghost use Rattle.roots.specs.Root.{hypotOf};
 ghost use Prim.Native.Nat.{_+_, _*_, _/_, _^_, _≤_, _<_};
-ghost use Rattle.roots.specs.Parts.{Summed, Sorted, rootBits, magBits};
+ghost use Rattle.roots.specs.Parts.{Sorted, rootBits, magBits};
 
 // 4 ^ d.
 fn fours(d: u64) -> u64
@@ -47,8 +48,8 @@ fn hypot_digits(a: u32, b: u32) -> u32
     pack(feed2(s, w, d + 1), u)
 }
 
-// The same where the larger is subnormal or zero. Two zeros come up often, in the scale of an even transform, so they are told at once.
-fn hypot_small(a: u32, b: u32) -> u32
+// The same. Two zeros come up often, in the scale of an even transform, so they are told at once.
+pub(crate) fn hypot_bits(a: u32, b: u32) -> u32
     requires { ⌜ (b ≤ a) × (a < 0x7f80_0000) ⌝ }
     ensures { λ r. ⌜ rootBits 2 (magBits a * magBits a + magBits b * magBits b) r ⌝ }
 {
@@ -58,72 +59,33 @@ fn hypot_small(a: u32, b: u32) -> u32
     hypot_digits(a, b)
 }
 
-// A candidate: 24 digits that may be those of the root of the sum of the squares.
-fn guess_sum(a: u32, b: u32) -> u64
-    requires { ⌜ (b ≤ a) × (a < 0x7f80_0000) ⌝ }
-    ensures { λ q. ⌜ (2 ^ 23 ≤ q) × (q ≤ 2 ^ 24) ⌝ }
+// The pattern of the root of x² + y² by a candidate, or 0 where none settles it. In f64 the squares are exact, so their sum is rounded once.
+// A zero x, and a y that is nothing beside x, its exponent 14 or more below, come up often and are told at once.
+pub(crate) fn hypot_near(x: f32, y: f32) -> u32
+    ensures { λ r. ⌜ (r ≡ 0) ⊎ ((r ≤ 0x7f80_0000) × (ofBits binary32 r ≡ hypotOf x y)) ⌝ }
 {
-    let x = f64::from_bits(widened(a));
-    let y = f64::from_bits(widened(b));
-    let v = x * x + y * y;
-    if v != v {
-        return 0x80_0000;
+    if x != x {
+        return 0;
     }
-    let i = f64::to_bits(v);
-    if i < 0x7ff0_0000_0000_0000 {
-        return guess2(i);
+    if y != y {
+        return 0;
     }
-    0x80_0000
-}
-
-// What the squares of m * 2 ^ d and n sum to, in units of 4 ^ (d + t) with the fraction dropped: 47 or 48 digits.
-fn squares(m: u64, n: u64, d: u64) -> Parts
-    requires { ⌜ (2 ^ 23 ≤ m) × (m < 2 ^ 24) × (n < 2 ^ 24) × (d ≤ 12) ⌝ }
-    ensures { λ p. ⌜ Summed (m * m + n * n / 2 ^ (d * 2)) (p .m) (p .t) ⌝ }
-{
-    let z = m * m + (n * n >> d * 2);
-    let g = z / 0x1_0000_0000_0000;
-    Parts {
-        m: z >> g * 2,
-        t: g,
+    let a = f32::to_bits(x) % 0x8000_0000;
+    let b = f32::to_bits(y) % 0x8000_0000;
+    if a == 0 {
+        return b;
     }
-}
-
-// The root of the sum of two squares, of patterns with the larger first, by a candidate. As in `sqrt_bits`, but s may have lost a fraction: so q is surely the
-// nearest only where s < q² + q. Where the exponents are more than 12 apart it is the larger.
-pub(crate) fn hypot_bits(a: u32, b: u32) -> u32
-    requires { ⌜ (b ≤ a) × (a < 0x7f80_0000) ⌝ }
-    ensures { λ r. ⌜ rootBits 2 (magBits a * magBits a + magBits b * magBits b) r ⌝ }
-{
-    if a < 0x80_0000 {
-        return hypot_small(a, b);
-    }
-    let p = fields(a);
-    let o = fields(b);
-    let m = p.m;
-    let n = o.m;
-    let t = p.t;
-    let u = o.t;
-    let d = t - u;
-    if 12 < d {
+    if b + 0x700_0000 < a {
         return a;
     }
-    let z = squares(m, n, d);
-    let s = z.m;
-    let g = z.t;
-    let q = guess_sum(a, b);
-    let w = q * q;
-    if s + q <= w {
-        return hypot_digits(a, b);
+    let e = x as f64;
+    let f = y as f64;
+    let v = e * e + f * f;
+    let j = std::num::wrapping_sub_u64(f64::to_bits(v), 0x3030_0000_0000_0000);
+    if j < 0x1fc0_0000_0000_0000 {
+        return near(j);
     }
-    if w + q <= s {
-        return hypot_digits(a, b);
-    }
-    let r = (t + g) * 0x80_0000 + q;
-    if r < 0x7f80_0000 {
-        return r as u32;
-    }
-    0x7f80_0000
+    0
 }
 
 // Two patterns, the larger first.

@@ -4,8 +4,8 @@ use borrow.Author.Needs.{needs}
 use Rattle.roots.proofs.format.leading.Statement.{statement}
 use Rattle.roots.proofs.format.leading.Tie as tie
 
-float-to-bits-result : tie.Need-float-to-bits-result
-float-to-bits-result c = is-number _ (c .if1 .left)
+float-to-bits-wrapping-add-u64 : tie.Need-float-to-bits-wrapping-add-u64
+float-to-bits-wrapping-add-u64 c = is-number _ (c .if1 .left)
 
 pub leading-spec : {M : Type 1} → statement M
-leading-spec = tie.close (tie.spec (λ c. search needs) float-to-bits-result (λ c. search needs) (λ c. search needs) (λ c. search needs))
+leading-spec = tie.close (tie.spec (λ c. search needs) float-to-bits-wrapping-add-u64 (λ c κs. search needs) (λ c. search needs) (λ c. search needs))
