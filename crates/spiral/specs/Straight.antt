@@ -21,7 +21,6 @@ use Rattle.spiral.specs.Util.{newOf, lengthOf, angleOf}
 use Rattle.spiral.specs.declared.util.Vec2.{Vec2}
 use Rattle.spiral.specs.declared.euler.CubicParams.{CubicParams}
 
-
 -- 2 ^ -14
 abbrev pub slight : Float
 slight = f32 0x38800000
