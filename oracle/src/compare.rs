@@ -226,8 +226,12 @@ pub fn compare(seed: u64, scenes: u64, with_names: bool) -> bool {
 
 #[cfg(test)]
 mod tests {
+    use std::f32::consts::TAU;
+
     use super::*;
+    use crate::drafts::{BEVEL, Draft, FILL as FILLED, Outline};
     use crate::scenes::{EDGES, ROOMS, lend};
+    use crate::shapes::Point;
     use crate::stops;
     use crate::values::Values;
 
@@ -250,6 +254,63 @@ mod tests {
                     assert!(!either_differs(&at_edge), "scene {index}, {name}: {at_edge:x?}");
                 }
             }
+        }
+    }
+
+    /// About a power of 2 between these.
+    fn size(values: &mut Values, least: i32, most: i32) -> f32 {
+        let power = least + values.below((most - least) as u64) as i32;
+        (1.5 + values.within(0.5)) * (power as f32).exp2()
+    }
+
+    fn either(values: &mut Values, x: f32) -> f32 {
+        if values.once_in(2) { x } else { -x }
+    }
+
+    /// A way of nearly straight segments of all three kinds.
+    fn way(values: &mut Values, scale: f32) -> Outline {
+        let start = [values.within(2000.) / scale, values.within(2000.) / scale];
+        let mut at = start;
+        let mut segment = |values: &mut Values| {
+            let (s, c) = values.within(TAU).sin_cos();
+            let long = size(values, -2, 13) / scale;
+            let beside = |values: &mut Values, part: f32| {
+                let low = size(values, -24, -6);
+                let off = either(values, low) * long;
+                [at[0] + part * long * c - off * s, at[1] + part * long * s + off * c]
+            };
+            let controls = values.below(3) as usize;
+            let mut segment: Vec<Point> =
+                [1. / 3., 2. / 3.][..controls].iter().map(|part| beside(values, *part)).collect();
+            at = [at[0] + long * c, at[1] + long * s];
+            segment.push(at);
+            segment
+        };
+        Outline { start, segments: (0..12).map(|_| segment(values)).collect() }
+    }
+
+    /// Slopes, lengths, scales and widths about the limits within which a side is told as one line at once.
+    #[test]
+    fn nearly_straight() {
+        stops::watch();
+        for index in 0..3000 {
+            let values = &mut Values::at(3, index);
+            let scale = size(values, -3, 8);
+            let (s, c) = values.within(TAU).sin_cos();
+            let transform = [scale * c, scale * s, -scale * s, scale * c, values.within(2000.), values.within(2000.)];
+            let outline = way(values, scale);
+            let mut draft = Draft::default();
+            if values.once_in(2) {
+                draft.begin_under(transform, FILLED, 0.);
+                draft.filled(&outline);
+            } else {
+                let width = size(values, -3, 11);
+                draft.begin_under(transform, BEVEL, width);
+                draft.open_stroke(&outline);
+            }
+            draft.end();
+            let given = Given::of(draft.encoded(), 20_000);
+            assert!(!Both::flatten(&given).differ(), "sheet {index}");
         }
     }
 }

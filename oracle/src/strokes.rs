@@ -8,10 +8,9 @@ use published::ours::Ours;
 
 use crate::drafts::{Draft, Outline};
 use crate::shapes::Point;
-use crate::sheet::FILL;
 use crate::stops::Stop;
 use crate::values::Values;
-use crate::whole::{EMPTY_BOX, Given, scan};
+use crate::whole::Given;
 
 /// No room is above this, so that a huge curve ends.
 const MOST_LINES: usize = 2000;
@@ -220,21 +219,7 @@ fn given(stroke: &Stroke) -> Given {
     draft.begin_under(stroke.transform, stroke.flags, stroke.width);
     draft.open_stroke_marked(&stroke.outline, stroke.marker);
     draft.end();
-    let encoded = draft.encoded();
-    let layout = encoded.layout;
-    let mut prefixes = vec![0; 4 * 64 * layout.n_wg as usize];
-    scan(&encoded.scene, layout.tag_base, &mut prefixes);
-    Given {
-        n_wg: layout.n_wg,
-        tag_base: layout.tag_base,
-        data_base: layout.data_base,
-        transform_base: layout.transform_base,
-        style_base: layout.style_base,
-        scene: encoded.scene,
-        prefixes,
-        boxes: vec![EMPTY_BOX],
-        lines: vec![FILL; 6 * MOST_LINES],
-    }
+    Given::of(draft.encoded(), MOST_LINES)
 }
 
 /// The port's lines, or None where it refuses.

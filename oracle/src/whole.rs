@@ -5,8 +5,9 @@ use std::iter;
 
 use vello_encoding::{BumpAllocators, ConfigUniform, Layout, LineSoup, Monoid, PathBbox, PathMonoid};
 
+use crate::drafts::Encoded;
 use crate::hex::{hex, runs};
-use crate::sheet::{Sheet, UNSTORED, stored};
+use crate::sheet::{FILL, Sheet, UNSTORED, stored};
 use crate::stops::{self, Stop};
 
 /// What a call is given and lent. Prefixes and lines are words, of which some may be left over.
@@ -41,6 +42,26 @@ pub type Main = fn(u32, &ConfigUniform, &[u32], &[PathMonoid], &mut [PathBbox], 
 /// The box of a path with no line yet.
 pub const EMPTY_BOX: PathBbox =
     PathBbox { x0: i32::MAX, y0: i32::MAX, x1: i32::MIN, y1: i32::MIN, draw_flags: 0, trans_ix: 0 };
+
+impl Given {
+    /// A sheet with room for so many lines, each word of which is FILL.
+    pub fn of(sheet: Encoded, room: usize) -> Self {
+        let layout = sheet.layout;
+        let mut prefixes = vec![0; 4 * 64 * layout.n_wg as usize];
+        scan(&sheet.scene, layout.tag_base, &mut prefixes);
+        Self {
+            n_wg: layout.n_wg,
+            tag_base: layout.tag_base,
+            data_base: layout.data_base,
+            transform_base: layout.transform_base,
+            style_base: layout.style_base,
+            scene: sheet.scene,
+            prefixes,
+            boxes: vec![EMPTY_BOX; sheet.paths],
+            lines: vec![FILL; 6 * room],
+        }
+    }
+}
 
 impl Given {
     fn config(&self) -> ConfigUniform {
