@@ -89,17 +89,17 @@ enough a l m p q =
     && (lt (curvatureLimit a) (dec 1 3) && (rootOver p (bendLimit a) && (rootOver q (spanLimit l m) && (le (p ⊗ (factor ⊗ q)) (whole 1) && unsigned (whole 1)))))
 
 -- ---- a range whose slopes, chord and scale keep to limits
-pub record Keeps (a l m : Float) (from to : Tip) (offset scale : Float) : Type 0 where
-  pub whole-range : to .t ⊖ from .t ≡ whole 1
-  pub some : T (positive (squareOf from to))
-  pub long : T (le (whole 1) (squareOf from to))
-  pub not-far : T (le (squareOf from to) (fin false 1 (pos 100)))
-  pub chord : Small l (sqrtOf (squareOf from to))
-  pub starts : Along a (squareOf from to) (startOver (from .q) (chordOf from to))
-  pub ends : Along a (squareOf from to) (endOver (to .q) (chordOf from to))
-  pub scaled : Small m scale
-  pub scales : AtLeast (dec 95367431640625 20) scale
-  pub off : Small (whole 256) offset
+record Keeps (a l m : Float) (from to : Tip) (offset scale : Float) : Type 0 where
+  whole-range : to .t ⊖ from .t ≡ whole 1
+  some : T (positive (squareOf from to))
+  long : T (le (whole 1) (squareOf from to))
+  not-far : T (le (squareOf from to) (fin false 1 (pos 100)))
+  chord : Small l (sqrtOf (squareOf from to))
+  starts : Along a (squareOf from to) (startOver (from .q) (chordOf from to))
+  ends : Along a (squareOf from to) (endOver (to .q) (chordOf from to))
+  scaled : Small m scale
+  scales : AtLeast (dec 95367431640625 20) scale
+  off : Small (whole 256) offset
 
 square-fits : (c : Vec2) → T (fits binary32 (lengthSquaredOf c))
 unfolding lengthSquaredOf dotOf
@@ -144,7 +144,7 @@ module _ (a l m p q : Float) (slight : Slight a) (ok : T (enough a l m p q)) (fr
   abbrev c : CubicParams
   c = paramsOf from to
 
-  pub near : T (le (c .err ⊗ scale) (dec 25 2))
+  near : T (le (c .err ⊗ scale) (dec 25 2))
   near = most (dec 25 2) (and-l (le (fittedLimit a ⊗ l ⊗ m) (dec 25 2) && plain (dec 25 2)) _ ok) (times (flat .error l (h .chord)) (h .scaled))
 
   abbrev e : EulerParams
@@ -211,7 +211,7 @@ module _ (a l m p q : Float) (slight : Slight a) (ok : T (enough a l m p q)) (fr
       (times (root-small _ p (bendLimit a) (and-l third (fourth && last) after-second) (abs-not-below (k ⊗ (k ⊗ dist ⊕ whole 1))) (abs-small bend))
       (times (own factor factor-unsigned) (root-small _ q (spanLimit l m) (and-l fourth last after-third) span-not-under span)))
 
-  pub count : fitOf offset scale (from .p) (to .p) c .n ≡ whole 1
+  count : fitOf offset scale (from .p) (to .p) c .n ≡ whole 1
   unfolding fitOf robustOf nFracOf integrandOf multiplierOf round
   count = rw (low) (one-count _ (product .held))
 

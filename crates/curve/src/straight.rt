@@ -77,6 +77,7 @@ fn are_along(steep: f32, squared: f32, c: Vec2, q0: Vec2, q1: Vec2) -> bool
     false
 }
 
+// Of the side's two tips. A short chord and a wide stroke are left to the walk.
 pub(crate) fn is_line(from: Tip, to: Tip, offset: f32, scale: f32) -> bool
     ensures { λ r. ⌜ r ≡ isLine from to offset scale ⌝ }
 {
