@@ -1,5 +1,6 @@
 pub mod Util
 pub mod Euler
 pub mod Points
+pub mod NoOffset
 pub mod Answers
 pub mod Straight

@@ -1,6 +1,7 @@
 // Fitting an Euler spiral to a cubic, and points along the spiral and its offset curves.
 ghost use mathlib.Core.Path.{_≡_};
 ghost use Rattle.spiral.specs.Euler.{shortChord, fittedError, errorRatio, longChord, fromPointsDerivs, fromAngles, evalTh, evalOf, evalWithOffset, fromParams, pointOf, integEuler10, nearCurve, espcCurve, espcIntApprox, nearInverse, quadInverse, espcInverse, espcIntInvApprox};
+ghost use Rattle.spiral.specs.NoOffset.{unmoved};
 use crate::util::Vec2;
 
 // Tangents below this length count as zero.
@@ -180,11 +181,15 @@ impl EulerParams {
         ensures { λ r. ⌜ r ≡ evalWithOffset self t offset ⌝ }
     {
         let th = self.eval_th(t);
+        let p = self.eval(t);
+        if stays(p, th, offset) {
+            return p;
+        }
         let v = Vec2 {
             x: offset * maths::sin(th),
             y: offset * maths::cos(th),
         };
-        self.eval(t).add(v)
+        p.add(v)
     }
 }
 
@@ -209,6 +214,21 @@ impl EulerSeg {
             y: p0.y + chord.x * p.y + chord.y * p.x,
         }
     }
+}
+
+// Whether the offset leaves p where it is, at the angle th. At no offset zeros are added, which
+// changes nothing but a zero's sign; an angle that is infinite or no number adds a NaN.
+fn stays(p: Vec2, th: f32, offset: f32) -> bool
+    ensures { λ r. ⌜ r ≡ unmoved p th offset ⌝ }
+{
+    if offset == 0.0 {
+        if th - th == 0.0 {
+            if p.x != 0.0 {
+                return p.y != 0.0;
+            }
+        }
+    }
+    false
 }
 
 // A polynomial of 10th order for the integral of a spiral.
