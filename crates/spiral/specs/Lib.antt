@@ -4,3 +4,4 @@ pub mod Points
 pub mod NoOffset
 pub mod Answers
 pub mod Straight
+pub mod Judged
