@@ -84,7 +84,7 @@ within-ones {b} {v} h =
 unfoldable pub sinLimit : Float → Float
 sinLimit a = let z = a ⊗ a in ((f32 0x394c6b2b ⊗ z ⊕ f32 0x3c08832c) ⊗ z ⊕ f32 0x3e2aaaa3) ⊗ (z ⊗ a) ⊕ a
 
-near-small : {a x : Float} → Small a x → Small (sinLimit a) (sinNear x)
+pub near-small : {a x : Float} → Small a x → Small (sinLimit a) (sinNear x)
 unfolding sinLimit sinNear
 near-small {a} {x} h =
     let z = times h h in
@@ -100,7 +100,7 @@ near-small {a} {x} h =
     first = unfold ofBits in unfold neg in turned (own (f32 0x3e2aaaa3) tt)
 
 -- below 0.78125 an angle is its own rest
-below-infinity : (a c : Float) → T (lt a c) → T (lt a infinity)
+pub below-infinity : (a c : Float) → T (lt a c) → T (lt a infinity)
 unfolding lt ofBits
 below-infinity nan c h = absurd h
 below-infinity (inf true) c h = tt
@@ -109,11 +109,11 @@ below-infinity (inf false) (inf t) h = absurd h
 below-infinity (inf false) (fin t n d) h = absurd h
 below-infinity (fin s m e) c h = tt
 
-sin-is : (x : Float) → T (lt (absOf x) infinity) → T (lt (absOf x) (f32 0x3f480000)) → sinOf x ≡ signed (signOf x) (boundedOf minusOne one (sinNear (absOf x)))
+pub sin-is : (x : Float) → T (lt (absOf x) infinity) → T (lt (absOf x) (f32 0x3f480000)) → sinOf x ≡ signed (signOf x) (boundedOf minusOne one (sinNear (absOf x)))
 unfolding sinOf reducedOf waveOf curveOf signed
 sin-is x f h = rw (is-true (lt (absOf x) infinity) f, is-true (lt (absOf x) (f32 0x3f480000)) h)
 
-cos-is : (x : Float) → T (lt (absOf x) infinity) → T (lt (absOf x) (f32 0x3f480000)) → cosOf x ≡ boundedOf minusOne one (cosNear (absOf x))
+pub cos-is : (x : Float) → T (lt (absOf x) infinity) → T (lt (absOf x) (f32 0x3f480000)) → cosOf x ≡ boundedOf minusOne one (cosNear (absOf x))
 unfolding cosOf reducedOf waveOf curveOf signed
 cos-is x f h = rw (is-true (lt (absOf x) infinity) f, is-true (lt (absOf x) (f32 0x3f480000)) h)
 
@@ -165,7 +165,7 @@ none-and-one : none ⊕ one ≡ one
 unfolding ofBits add
 none-and-one = refl
 
-cos-near-least : {a x : Float} → T (positive (one ⊖ cosDrop a)) → Small a x → AtLeast (one ⊖ cosDrop a) (cosNear x)
+pub cos-near-least : {a x : Float} → T (positive (one ⊖ cosDrop a)) → Small a x → AtLeast (one ⊖ cosDrop a) (cosNear x)
 unfolding cosNear
 cos-near-least p h = sum-least p one-least (drop-small h)
 
@@ -175,7 +175,7 @@ one-reached {a} p h = subst (λ (v : Float). AtLeast (one ⊖ cosDrop a) v) none
 some : (d x : ℕ) → 0 < d → 0 < 1 * 1 * d + x
 some d x h = omega arith
 
-over-minus-one : (w : Float) → T (above w) → T (lt minusOne w)
+pub over-minus-one : (w : Float) → T (above w) → T (lt minusOne w)
 unfolding lt ofBits
 over-minus-one nan h = absurd h
 over-minus-one (inf true) h = absurd h

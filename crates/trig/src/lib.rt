@@ -17,6 +17,9 @@ const HALF_PI: f32 = 1.57079637;
 
 const PI: f32 = 3.14159274;
 
+// 0.78125 squared: an angle with a smaller square is below 0.78125, whatever its sign.
+const NEAR: f32 = 0.6103515625;
+
 // v brought between lo and hi. A NaN becomes lo.
 fn bounded(lo: f32, hi: f32, v: f32) -> f32
     ensures { λ r. ⌜ r ≡ boundedOf lo hi v ⌝ }
@@ -170,15 +173,29 @@ fn cosine(a: f32) -> f32
     far(1, a)
 }
 
+// Most angles are small, and the sum of such a one lies between the bounds and has its sign, unless it is a zero.
 pub fn sin(x: f32) -> f32
     ensures { λ r. ⌜ r ≡ sinOf x ⌝ }
 {
+    if x * x < NEAR {
+        let s = sin_near(x);
+        if s != 0.0 {
+            return s;
+        }
+    }
     turned(is_negative(x), sine(abs(x)))
 }
 
+// The sum of a small angle is above 0, and the same of either sign.
 pub fn cos(x: f32) -> f32
     ensures { λ r. ⌜ r ≡ cosOf x ⌝ }
 {
+    if x * x < NEAR {
+        let c = cos_near(x);
+        if c < 1.0 {
+            return c;
+        }
+    }
     cosine(abs(x))
 }
 
