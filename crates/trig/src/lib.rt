@@ -247,16 +247,28 @@ fn angle(y: f32, x: f32) -> f32
     if left { PI - p } else { p }
 }
 
+// Where |y| is below x, the sum of the slope itself is the angle, if it has the slope's sign. A smaller slope than 2^-14 is left to `angle`: powers of it
+// may be subnormal, which take long on some processors.
 pub fn atan2(y: f32, x: f32) -> f32
     ensures { λ r. ⌜ r ≡ atan2Of y x ⌝ }
 {
+    let a = abs(y);
+    if a < x {
+        let t = y / x;
+        if 3.7252903e-9 <= t * t {
+            let r = atan_near(t);
+            if 0.0 < r * t {
+                return r;
+            }
+        }
+    }
     if is_nan(y) {
         return 0.0 / 0.0;
     }
     if is_nan(x) {
         return 0.0 / 0.0;
     }
-    turned(is_negative(y), bounded(0.0, PI, angle(abs(y), x)))
+    turned(is_negative(y), bounded(0.0, PI, angle(a, x)))
 }
 
 // The arc sine of s, up to a half, with z its square.
