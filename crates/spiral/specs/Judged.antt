@@ -3,7 +3,6 @@ use mathlib.Core.Path.{_≡_, refl, sym, ap, _∙_, subst}
 use mathlib.Core.Bool.{Bool, true, false, _&&_}
 use Prim.Native.Nat.{ℕ, _*_, _^_}
 use native.Mathlib.Nat.{le-refl, not-le-of-lt, zero-lt-suc}
-use lib.IntN.{negsuc}
 use lib.Dec.{T, ltb→lt}
 use lib.Ieee.{Float, nan, inf, fin, binary32, up, down, round, fits, lt, le}
 use lib.Ieee.Bits.{is-true}
@@ -13,7 +12,7 @@ use Rattle.laws.specs.NotFinite.{unsigned, unsigned-round, unsigned-mul}
 use Rattle.laws.specs.Size.{widened, lt-or-eq}
 use Rattle.laws.specs.Limits.{Small, times, plus, own, decimal, more, most}
 use Rattle.maths.specs.Numbers.{absOf, small-of-abs}
-use Rattle.maths.specs.Roots.{hypotOf, hypot-small, hypot-unsigned}
+use Rattle.maths.specs.Roots.{hypotOf, hypot-small}
 use Rattle.spiral.specs.declared.euler.CubicParams.{CubicParams}
 
 abbrev pub tolerance : Float

@@ -1,16 +1,15 @@
 -- Where the offset is a zero, zeros are added to the point, and it stays as it is. Assumes nothing.
 use mathlib.Core.Path.{_≡_, sym, _∙_}
-use mathlib.Core.Logic.{inr}
 use mathlib.Core.Bool.{Bool, true, false, not, _&&_, _||_, Bool·beq}
 use Prim.Native.Nat.{ℕ, zero, suc, _*_, _<_}
 use native.Mathlib.Nat.{mul-pos, zero-lt-suc}
 use native.Mathlib.Omega.{arith}
 use lib.Dec.{T, eqb, eqb→eq}
-use lib.Ieee.{Float, nan, inf, fin, binary32, up, down, fits, round, ofBits, neg, add, sub, isNan, eq, ne, le}
+use lib.Ieee.{Float, nan, inf, fin, binary32, up, down, fits, round, ofBits, neg, add, sub, eq, ne, le}
 use lib.Ieee.Fits.{up-pos, sub-fits, and-l, and-r}
 use lib.Ieee.Scale.{finite}
 use Rattle.laws.specs.Binary32.{_⊕_, _⊖_, _⊗_, whole}
-use Rattle.laws.specs.Same.{isZero, plusZero, null, mul-zero-fin, same→eq}
+use Rattle.laws.specs.Same.{isZero, plusZero, null, mul-zero-fin, not-zero}
 use Rattle.laws.specs.Own.{add-zero-own}
 use Rattle.maths.specs.Trig.{sinOf, cosOf, Within, one, minusOne, sin-range, cos-range}
 use Rattle.spiral.specs.Util.{newOf, addOf}
@@ -36,17 +35,6 @@ zero-of-eq (fin s (suc m) e) h =
     let a = suc m * up e * 1 in
     let b = 0 * 1 * down e in
     absurd (no-size a (mul-pos (mul-pos (zero-lt-suc m) (up-pos e)) (zero-lt-suc 0)) (eqb→eq a b (and-l (eqb a b) (Bool·beq s false || eqb a 0) h) ∙ null 1 (down e)))
-
-clash : (b : Bool) → T b → T (not b) → ⊥
-clash true h n = n
-clash false h n = h
-
-not-zero : (x : Float) → T (ne x plusZero) → T (not (isZero x))
-unfolding isNan ne
-not-zero nan h = tt
-not-zero (inf s) h = tt
-not-zero (fin s zero e) h = absurd (clash (eq (fin s zero e) plusZero) (same→eq (fin s zero e) plusZero tt (inr (tt, tt))) h)
-not-zero (fin s (suc m) e) h = tt
 
 finite-of : (x : Float) → T (eq (x ⊖ x) plusZero) → T (finite x)
 unfolding sub add neg eq

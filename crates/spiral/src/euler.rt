@@ -183,8 +183,8 @@ fn long_chord(
 }
 
 impl CubicParams {
-    // From the ends, the derivatives there, and the length of the parameter's range. The error is the one asked for, or another that is within the tolerance
-    // at this scale where that is; at a scale of 0 it is always the one.
+    // From the ends, the derivatives there, and the length of the parameter's range. The error is that of the fit, or another that is within the tolerance at
+    // this scale exactly where that is; at a scale of 0 it is that of the fit.
     pub fn from_points_derivs(
         p0: Vec2,
         p1: Vec2,

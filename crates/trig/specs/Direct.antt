@@ -15,7 +15,7 @@ use lib.Ieee.Scale.{finite}
 use lib.Ieee.Positive.{positive, above-of-le}
 use Rattle.laws.specs.Binary32.{_⊕_, _⊖_, _⊗_, _⊘_, f32}
 use Rattle.laws.specs.Neg.{neg-neg, round-neg, mul-neg, div-neg}
-use Rattle.laws.specs.Same.{isZero, either, null, mul-swap, mul-zero-fin, mul-zero-other, round-zero, same→eq}
+use Rattle.laws.specs.Same.{isZero, either, null, mul-swap, mul-zero-fin, mul-zero-other, round-zero, not-zero}
 use Rattle.laws.specs.NotFinite.{unsigned, unsigned-mul}
 use Rattle.laws.specs.Limits.{Small, AtLeast, times, plus, turned, own, under, least-product}
 use Rattle.numbers.specs.Words.{signOf, signed, absOf}
@@ -102,13 +102,6 @@ abs-square : (x : Float) → absOf x ⊗ absOf x ≡ x ⊗ x
 unfolding absOf
 abs-square x = both-signed (signOf x) x x
 
-not-zero : (v : Float) → ne v none ≡ true → T (not (isZero v))
-unfolding ne ofBits isNan
-not-zero nan h = tt
-not-zero (inf s) h = tt
-not-zero (fin s zero e) h = absurd (T-not (eq (fin s zero e) none) (subst T (sym h) tt) (same→eq (fin s zero e) none tt (inr (tt, tt))))
-not-zero (fin s (suc m) e) h = tt
-
 -- what lies inside the bounds
 unbounded : (lo hi v : Float) → T (lt lo v) → T (lt v hi) → boundedOf lo hi v ≡ v
 unfolding boundedOf
@@ -167,7 +160,8 @@ of-near-sin x h z =
     ∙ signed-twice (signOf x) (sinNear x)
 
 pub sin-direct : (x s : Float) → lt (x ⊗ x) (limitSquare) ≡ true → s ≡ sinNear x → ne s none ≡ true → s ≡ sinOf x
-sin-direct x s h e z = e ∙ sym (of-near-sin x (subst T (sym h) tt) (not-zero (sinNear x) (rw e at z)))
+unfolding ofBits
+sin-direct x s h e z = e ∙ sym (of-near-sin x (subst T (sym h) tt) (not-zero (sinNear x) (subst T (sym (rw e at z)) tt)))
 
 -- ---- cos: it is above 0
 cos-positive : T (positive (one ⊖ cosDrop limit))
