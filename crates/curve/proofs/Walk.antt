@@ -14,6 +14,7 @@ use Rattle.laws.specs.Binary32.{_⊗_, dec}
 use Rattle.laws.specs.Same.{one}
 use Rattle.spiral.specs.declared.util.Vec2.{Vec2}
 use Rattle.spiral.specs.declared.euler.CubicParams.{CubicParams}
+use Rattle.spiral.specs.Judged.{Judged}
 use Rattle.drawing.specs.Sheet.{Event}
 use Rattle.curve.specs.Fit.{tipAt, paramsOf, fitOf}
 use Rattle.curve.specs.Curve.{Front, frontOf, part, tipOf, isNear, rangeOf, rangeEnd, accepted, walk}
@@ -70,6 +71,11 @@ walk-accepted s (suc d) u f h e = walk-near s d u f (or-left _ _ (above-limit d 
 can-halve : (s : Side) (d u : ℕ) (f : Front) → test s d u f ≡ false → (x : ℕ) × (d ≡ suc x)
 can-halve s zero u f e = absurd (or-right (isNear s f (tipOf s 0 u)) (le (part 1) (part 1)) at-limit e)
 can-halve s (suc d) u f e = (d, refl)
+
+-- a fit asks nothing of the error
+same-fit : (offset scale : Float) (p0 p1 : Vec2) {exact got : CubicParams} → Judged scale exact got → fitOf offset scale p0 p1 got ≡ fitOf offset scale p0 p1 exact
+unfolding fitOf
+same-fit offset scale p0 p1 h = rw (h .start, h .end, h .long)
 
 -- a power of two as the code shifts it
 pub shifted : (z : ℕ) → z ≤ 16 → 1 * 2 ^ z % 4294967296 ≡ 2 ^ z
@@ -169,12 +175,12 @@ module _ {s : Side} {es : List Event} {u : ℕ} {dt : Float} {f : Front} (h : He
             et
             ∙ ap (tipAt (s .points)) (ap₂ (λ (x y : Float). add binary32 x y) start (h .wide) ∙ end-is u (h .d) units-le deep)
 
-        module _ {params : CubicParams} {r : Bool} (ep : params ≡ paramsOf (f .tip) to) (er : r ≡ (le (params .err ⊗ s .scale) (dec 25 2) || le dt (part 1))) where
+        module _ {params : CubicParams} {r : Bool} (ep : Judged (s .scale) (paramsOf (f .tip) to) params) (er : r ≡ (le (params .err ⊗ s .scale) (dec 25 2) || le dt (part 1))) where
           test-is : r ≡ test s (h .d) u f
           unfolding isNear
           test-is =
               er
-              ∙ ap₂ (λ (x : CubicParams) (y : Float). le (x .err ⊗ s .scale) (dec 25 2) || le y (part 1)) ep (h .wide)
+              ∙ ap₂ (λ (x : Bool) (y : Float). x || le y (part 1)) (ep .near) (h .wide)
               ∙ ap (λ (x : Tip). le (paramsOf (f .tip) x .err ⊗ s .scale) (dec 25 2) || le (part (2 ^ h .d)) (part 1)) tip-is
 
           -- a range that is accepted
@@ -186,7 +192,7 @@ module _ {s : Side} {es : List Event} {u : ℕ} {dt : Float} {f : Front} (h : He
               h .same
               ∙ head-accepted s (h .k) (h .d) u f inside (walk-accepted s (h .d) u f deep (sym test-is ∙ e))
               ∙ ap (λ (x : Tip). follow (accepted s f x) (rest s (h .k) (h .d) u)) (sym tip-is)
-              ∙ rw (ee, ef, ep, append-nil)
+              ∙ rw (ee, ef, same-fit (s .offset) (s .scale) (f .tip .p) (to .p) ep, append-nil)
 
           -- a range that is halved
           module _ (e : r ≡ false) where

@@ -4,10 +4,12 @@ ghost use Rattle.curve.specs.Fit.{isShort, firstTip, tipAt, paramsOf, mu
 ghost use Rattle.curve.specs.Straight.{isStraight};
 ghost use Rattle.laws.specs.Binary32.{_⊗_, whole};
 ghost use Rattle.maths.specs.Numbers.{ceilOf, clampOf};
+ghost use Rattle.spiral.specs.Judged.{Judged};
 use drawing::cubic::eval_cubic_and_deriv;
 use spiral::euler::CubicParams;
 use spiral::euler::EulerParams;
 use spiral::euler::EulerSeg;
+use spiral::euler::TOL;
 use spiral::euler::espc_int_approx;
 use spiral::euler::espc_int_inv_approx;
 use spiral::util::Vec2;
@@ -16,8 +18,6 @@ use spiral::util::Vec2;
 const DERIV_THRESH: f32 = 1e-6;
 // How far away it is taken then.
 const DERIV_EPS: f32 = 1e-6;
-// How far a spiral may be off, and a line from its spiral.
-pub const TOL: f32 = 0.25;
 
 const K1_THRESH: f32 = 1e-3;
 
@@ -92,10 +92,11 @@ pub fn tip_at(points: [Vec2; 4], t: f32) -> Tip
     Tip { p, q, t }
 }
 
-pub fn params_of(from: Tip, to: Tip) -> CubicParams
-    ensures { λ r. ⌜ r ≡ paramsOf from to ⌝ }
+// Of the error no more is asked than whether it is within the tolerance at this scale.
+pub fn params_of(from: Tip, to: Tip, scale: f32) -> CubicParams
+    ensures { λ r. ⌜ Judged scale (paramsOf from to) r ⌝ }
 {
-    CubicParams::from_points_derivs(from.p, to.p, from.q, to.q, to.t - from.t)
+    CubicParams::from_points_derivs(from.p, to.p, from.q, to.q, to.t - from.t, scale)
 }
 
 // The number of lines for curvature 1.

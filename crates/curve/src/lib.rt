@@ -16,13 +16,13 @@ use drawing::line::no_count;
 use drawing::line::output_line_with_transform;
 use drawing::line::stopped;
 use fit::Fit;
-use fit::TOL;
 use fit::Tip;
 use fit::first_tip;
 use fit::fit_range;
 use fit::params_of;
 use fit::place;
 use fit::tip_at;
+use spiral::euler::TOL;
 use spiral::util::Vec2;
 use spiral::util::apply;
 use spiral::util::identity;
@@ -138,7 +138,7 @@ fn walk_side(lines: &mut [u32], ink: Ink, path: u32, side: Side, first: Tip) -> 
             return so;
         }
         let to = tip_at(points, t0 + dt);
-        let params = params_of(last, to);
+        let params = params_of(last, to, side.scale);
         if accepts(params.err, side.scale, dt) {
             let fit = fit_range(side.offset, side.scale, last.p, to.p, params);
             let end = range_end(side, fit, to);

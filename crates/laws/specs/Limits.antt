@@ -8,7 +8,7 @@ use native.Mathlib.Nat.{one-mul, mul-one, mul-mul-mul-comm, mul-assoc, mul-comm,
 use native.Mathlib.Omega.{arith}
 use lib.IntN.{ℤ, pos}
 use lib.Dec.{T, ltb, eqb, ltb→lt, lt→ltb, nltb→le, eqb·suc-zero}
-use lib.Ieee.{Float, nan, inf, fin, binary32, up, down, unlike, below, round, sum, neg, add, sub, mul, div, lt, eq, le}
+use lib.Ieee.{Float, nan, inf, fin, binary32, up, down, unlike, below, round, fits, sum, neg, add, sub, mul, div, lt, eq, le}
 use lib.Ieee.Fits.{up-pos, down-pos, and-l, and-r}
 use lib.Ieee.Order.{le-of-values, round-mono}
 use lib.Ieee.Scale.{round-same}
@@ -18,6 +18,7 @@ use Rattle.laws.specs.Binary32.{_⊕_, _⊖_, _⊗_, _⊘_, dec, whole}
 use Rattle.laws.specs.Compare.{underZero}
 use Rattle.laws.specs.Neg.{round-neg}
 use Rattle.laws.specs.Same.{add-swap, mul-swap}
+use Rattle.laws.specs.Own.{add-zero-own}
 use Rattle.laws.specs.NotFinite.{unsigned, unsigned-round}
 use Rattle.laws.specs.Size.{AtMost, widened, of-unsigned, lt-or-eq, zero-at-most, le-at-most, neg-at-most, round-at-most, round-twice, mul-at-most, add-at-most}
 
@@ -175,6 +176,28 @@ quotient-held (fin false p i) (fin false (suc q) j) x y B l h =
 
 pub over : {a b x y : Float} → Small a x → AtLeast b y → Small (a ⊘ b) (x ⊘ y)
 over {a} {b} {x} {y} h l = record { held = quotient-held a b x y (l .above) (l .reached) (h .held) }
+
+-- ---- a sum is no smaller than a part of it
+pub nothing : (b : Float) → T (unsigned b) → Small b (whole 0)
+unfolding round
+nothing b u = record { held = by-limit b (whole 0) u (λ (p : ℕ) (k : ℤ) (e : b ≡ fin false p k). zero-at-most false (pos 0) (p * up k) (down k)) }
+
+zero-held : (b v : Float) (s : Bool) (e : ℤ) → Held b v → Held b (fin s zero e)
+zero-held nan v s e h = tt
+zero-held (inf true) v s e h = absurd h
+zero-held (inf false) v s e h = tt
+zero-held (fin true p k) v s e h = absurd h
+zero-held (fin false p k) v s e h = zero-at-most s e (p * up k) (down k)
+
+without-zero : (b x : Float) → T (fits binary32 x) → Held b (x ⊕ whole 0) → Held b x
+unfolding round
+without-zero b nan f h = unfold add in h
+without-zero b (inf s) f h = unfold add in h
+without-zero b (fin s zero e) f h = zero-held b (fin s zero e ⊕ whole 0) s e h
+without-zero b (fin s (suc m) e) f h = subst (Held b) (add-zero-own binary32 (fin s (suc m) e) (whole 0) tt tt f) h
+
+pub more : {a x : Float} (h : Float) → T (fits binary32 x) → T (unsigned h) → Small a x → Small (a ⊕ h) x
+more {a} {x} h f u l = record { held = without-zero (a ⊕ h) x f (plus l (nothing h u) .held) }
 
 -- ---- a larger limit
 wider-held : (a b x : Float) → T (le a b) → T (unsigned b) → Held a x → Held b x

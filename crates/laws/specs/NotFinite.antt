@@ -156,7 +156,7 @@ unfolding odd
 unsigned-odd d zero k l = tt
 unsigned-odd d (suc q) k l = tt
 
-unsigned-units : (f : Format) (q k : ℕ) → T (unsigned (units f false q k))
+pub unsigned-units : (f : Format) (q k : ℕ) → T (unsigned (units f false q k))
 unfolding units
 unsigned-units f q k = go (ltb (q * 2 ^ k) (2 ^ (low f + suc (emax f))))
   where

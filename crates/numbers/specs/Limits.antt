@@ -41,7 +41,7 @@ small-of-abs x c u l = abs-back c x (compared (absOf x) c (abs-not-below x) u l)
 pub max-least : {a x : Float} (y : Float) → AtLeast a x → AtLeast a (maxOf x y)
 max-least {a} {x} y h = raised (max-left x y (le-number-right a x (h .reached))) h
 
-abs-unsigned : (x : Float) → T (unsigned (absOf x))
+pub abs-unsigned : (x : Float) → T (unsigned (absOf x))
 unfolding absOf signOf signed neg
 abs-unsigned nan = tt
 abs-unsigned (inf true) = tt

@@ -17,6 +17,7 @@ use lib.Ieee.Positive.{num, den, positive, above, above-of-le, le→cross}
 use lib.Ieee.Scale.{finite}
 use Rattle.laws.specs.Binary32.{whole}
 use Rattle.laws.specs.Compare.{underZero}
+use Rattle.laws.specs.NotFinite.{unsigned, unsigned-units}
 use Rattle.laws.specs.Own.{fits-says, shift, shift-is}
 use Rattle.laws.specs.Size.{AtMost, of-value, widened, zero-at-most}
 use Rattle.laws.specs.Limits.{Small, AtLeast}
@@ -225,3 +226,14 @@ hypot-small (fin false (suc n) i) (fin s m e) (fin t r d) F P l h k =
     twice-at-most n i F (hypotOf (fin s m e) (fin t r d)) (mag m e * mag m e + mag r d * mag r d) (hypot-nearest s m e t r d)
     (two-squares (mag m e) (mag r d) (U n i F) (side n i F m e h) (side n i F r d k))
     (fair n i F (le-trans (le-of-eq (sym (mul-one (suc n * up i)))) g))
+
+-- no hypotenuse has a minus sign
+pub hypot-unsigned : (x y : Float) → T (unsigned (hypotOf x y))
+unfolding hypotOf
+hypot-unsigned nan nan = tt
+hypot-unsigned nan (inf t) = tt
+hypot-unsigned nan (fin t n d) = tt
+hypot-unsigned (inf s) y = tt
+hypot-unsigned (fin s m e) nan = tt
+hypot-unsigned (fin s m e) (inf t) = tt
+hypot-unsigned (fin s m e) (fin t n d) = let v = hypot-nearest s m e t n d in subst (λ (r : Float). T (unsigned r)) (sym (v .value)) (unsigned-units binary32 (v .q) (v .d))

@@ -1,8 +1,9 @@
 // Roots of f32, correctly rounded: the f32 nearest the exact root, ties to even.
 //
 // The four functions here sort out NaN, infinities, zeros and signs. The pattern of a finite number above zero, its sign left off, goes to a module:
-// `square` and `cube` for the roots of one number, `sum` for the root of a sum of squares, of which the candidate takes the numbers themselves. Each makes a candidate by float arithmetic and checks it exactly, by whole
-// squares or cubes; where it is not surely the nearest, the root is taken digit by digit. `format` takes patterns apart and puts them together.
+// `square` and `cube` for the roots of one number, `sum` for the root of a sum of squares, of which the candidate takes the numbers themselves.
+// Each makes a candidate by float arithmetic and checks it exactly, by whole squares or cubes; where it is not surely the nearest, the root is
+// taken digit by digit. `format` takes patterns apart and puts them together.
 // `cube` and all that it calls keep to products of 32 binary digits and to f32: `guess` makes its candidates, `narrow` checks them by parts.
 // An f32 pattern has its exponent from 2 ^ 23 on, 0x80_0000, and from 0x7f80_0000 on it is no finite number's.
 mod cube;

@@ -59,7 +59,7 @@ identity-rows : (p : Vec2) → applyOf identityOf p ≡ newOf (rowOf binary32 on
 unfolding applyOf identityOf round
 identity-rows p = refl
 
-both : {a b c d : Float} → a ≡ c → b ≡ d → newOf a b ≡ newOf c d
+pub both : {a b c d : Float} → a ≡ c → b ≡ d → newOf a b ≡ newOf c d
 both p q = cc
 
 -- points that are equal as numbers get the same bits

@@ -1,7 +1,17 @@
 // Fitting an Euler spiral to a cubic, and points along the spiral and its offset curves.
 ghost use mathlib.Core.Path.{_≡_};
 ghost use Rattle.spiral.specs.Euler.{shortChord, fittedError, errorRatio, longChord, fromPointsDerivs, fromAngles, evalTh, evalOf, evalWithOffset, fromParams, pointOf, integEuler10, nearCurve, espcCurve, espcIntApprox, nearInverse, quadInverse, espcInverse, espcIntInvApprox};
+ghost use lib.Dec.{T};
+ghost use lib.Ieee.{binary32, fits};
+ghost use Rattle.laws.specs.NotFinite.{unsigned};
+ghost use Rattle.laws.specs.Limits.{Small};
+ghost use Rattle.maths.specs.Roots.{hypotOf};
+ghost use Rattle.spiral.specs.Judged.{errorSum, isClose, Stands, Judged};
+ghost use Rattle.spiral.specs.NoOffset.{unmoved};
 use crate::util::Vec2;
+
+// How far a spiral may be off, and a line from its spiral.
+pub const TOL: f32 = 0.25;
 
 // Tangents below this length count as zero.
 pub const TANGENT_THRESH: f32 = 1e-6;
@@ -51,9 +61,59 @@ fn short_chord(q0: Vec2, q1: Vec2, dt: f32) -> CubicParams
     }
 }
 
-// The error over the chord's length, where the tangents do not turn back.
-fn fitted_error(th0: f32, th1: f32, d0: f32, d1: f32, cth0: f32, cth1: f32) -> f32
-    ensures { λ r. ⌜ r ≡ fittedError th0 th1 d0 d1 cth0 cth1 ⌝ }
+// The end of the error over the chord's length: what does not depend on dist, by how far the tangents' lengths are off the spiral's, and what does.
+fn error_sum(base: f32, symm: f32, asymm: f32, dist: f32) -> f32
+    ensures { λ r. ⌜ r ≡ errorSum base symm asymm dist ⌝ }
+{
+    let halo_symm = 5e-3 * symm * dist;
+    let halo_asymm = 7e-2 * asymm * dist;
+    base + halo_symm + halo_asymm
+}
+
+// Whether (x, y) is surely within 1/4 of 0.
+fn is_close(x: f32, y: f32) -> bool
+    ensures { λ r. ⌜ r ≡ isClose x y ⌝ }
+{
+    if maths::abs(x) <= 0.125 {
+        return maths::abs(y) <= 0.125;
+    }
+    false
+}
+
+// The same, for the distance of (x, y) from 0, or what stands for it: where it is too large without the distance, or small enough with 1/4 for it, no root
+// is taken.
+fn told_error(base: f32, symm: f32, asymm: f32, x: f32, y: f32, length: f32, scale: f32) -> f32
+    requires { ⌜ Small base base × T (fits binary32 base) × T (unsigned symm) × T (unsigned asymm) ⌝ }
+    ensures { λ r. ⌜ Stands length scale (errorSum base symm asymm (hypotOf x y)) r ⌝ }
+{
+    if 0.0 < length {
+        if 0.0 < scale {
+            if TOL < base * length * scale {
+                return base;
+            }
+            if is_close(x, y) {
+                let most = error_sum(base, symm, asymm, 0.25);
+                if most * length * scale <= TOL {
+                    return most;
+                }
+            }
+        }
+    }
+    error_sum(base, symm, asymm, maths::hypot(x, y))
+}
+
+// The error over the chord's length, or what stands for it, where the tangents do not turn back.
+fn fitted_error(
+    th0: f32,
+    th1: f32,
+    d0: f32,
+    d1: f32,
+    cth0: f32,
+    cth1: f32,
+    length: f32,
+    scale: f32,
+) -> f32
+    ensures { λ r. ⌜ Stands length scale (fittedError th0 th1 d0 d1 cth0 cth1) r ⌝ }
 {
     let e0 = (2.0 / 3.0) / maths::max(1.0 + cth0, 1e-9);
     let e1 = (2.0 / 3.0) / maths::max(1.0 + cth1, 1e-9);
@@ -65,42 +125,55 @@ fn fitted_error(th0: f32, th1: f32, d0: f32, d1: f32, cth0: f32, cth1: f32) -> f
     let aerr = maths::abs(a - amin);
     let symm = maths::abs(th0 + th1);
     let asymm = maths::abs(th0 - th1);
-    let dist = maths::hypot(d0 - e0, d1 - e1);
     let symm2 = symm * symm;
     let ctr = 4.625e-6 * (symm * (symm2 * symm2)) + 7.5e-3 * asymm * symm2;
-    let halo_symm = 5e-3 * symm * dist;
-    let halo_asymm = 7e-2 * asymm * dist;
-    ctr + 1.55 * aerr + halo_symm + halo_asymm
+    told_error(
+        ctr + 1.55 * aerr,
+        symm,
+        asymm,
+        d0 - e0,
+        d1 - e1,
+        length,
+        scale,
+    )
 }
 
-fn error_ratio(th0: f32, th1: f32, d0: f32, d1: f32) -> f32
-    ensures { λ r. ⌜ r ≡ errorRatio th0 th1 d0 d1 ⌝ }
+fn error_ratio(th0: f32, th1: f32, d0: f32, d1: f32, length: f32, scale: f32) -> f32
+    ensures { λ r. ⌜ Stands length scale (errorRatio th0 th1 d0 d1) r ⌝ }
 {
     let cth0 = maths::cos(th0);
     let cth1 = maths::cos(th1);
     if cth0 * cth1 < 0.0 {
         return 2.0;
     }
-    fitted_error(th0, th1, d0, d1, cth0, cth1)
+    fitted_error(th0, th1, d0, d1, cth0, cth1, length, scale)
 }
 
-fn long_chord(chord: Vec2, squared: f32, length: f32, q0: Vec2, q1: Vec2, dt: f32) -> CubicParams
-    ensures { λ r. ⌜ r ≡ longChord chord squared length q0 q1 dt ⌝ }
+fn long_chord(
+    chord: Vec2,
+    squared: f32,
+    length: f32,
+    q0: Vec2,
+    q1: Vec2,
+    dt: f32,
+    scale: f32,
+) -> CubicParams
+    ensures { λ r. ⌜ Judged scale (longChord chord squared length q0 q1 dt) r ⌝ }
 {
-    let scale = dt / squared;
+    let over = dt / squared;
     let h0 = Vec2 {
         x: q0.x * chord.x + q0.y * chord.y,
         y: q0.y * chord.x - q0.x * chord.y,
     };
     let th0 = h0.atan2();
-    let d0 = h0.length() * scale;
+    let d0 = h0.length() * over;
     let h1 = Vec2 {
         x: q1.x * chord.x + q1.y * chord.y,
         y: q1.x * chord.y - q1.y * chord.x,
     };
     let th1 = h1.atan2();
-    let d1 = h1.length() * scale;
-    let err = error_ratio(th0, th1, d0, d1) * length;
+    let d1 = h1.length() * over;
+    let err = error_ratio(th0, th1, d0, d1, length, scale) * length;
     CubicParams {
         th0,
         th1,
@@ -110,9 +183,17 @@ fn long_chord(chord: Vec2, squared: f32, length: f32, q0: Vec2, q1: Vec2, dt: f3
 }
 
 impl CubicParams {
-    // From the ends, the derivatives there, and the length of the parameter's range.
-    pub fn from_points_derivs(p0: Vec2, p1: Vec2, q0: Vec2, q1: Vec2, dt: f32) -> CubicParams
-        ensures { λ r. ⌜ r ≡ fromPointsDerivs p0 p1 q0 q1 dt ⌝ }
+    // From the ends, the derivatives there, and the length of the parameter's range. The error is that of the fit, or another that is within the tolerance at
+    // this scale exactly where that is; at a scale of 0 it is that of the fit.
+    pub fn from_points_derivs(
+        p0: Vec2,
+        p1: Vec2,
+        q0: Vec2,
+        q1: Vec2,
+        dt: f32,
+        scale: f32,
+    ) -> CubicParams
+        ensures { λ r. ⌜ Judged scale (fromPointsDerivs p0 p1 q0 q1 dt) r ⌝ }
     {
         let chord = p1.sub(p0);
         let chord_squared = chord.length_squared();
@@ -120,7 +201,7 @@ impl CubicParams {
         if chord_squared < TANGENT_THRESH * TANGENT_THRESH {
             return short_chord(q0, q1, dt);
         }
-        long_chord(chord, chord_squared, chord_len, q0, q1, dt)
+        long_chord(chord, chord_squared, chord_len, q0, q1, dt, scale)
     }
 }
 
@@ -180,11 +261,15 @@ impl EulerParams {
         ensures { λ r. ⌜ r ≡ evalWithOffset self t offset ⌝ }
     {
         let th = self.eval_th(t);
+        let p = self.eval(t);
+        if stays(p, th, offset) {
+            return p;
+        }
         let v = Vec2 {
             x: offset * maths::sin(th),
             y: offset * maths::cos(th),
         };
-        self.eval(t).add(v)
+        p.add(v)
     }
 }
 
@@ -209,6 +294,21 @@ impl EulerSeg {
             y: p0.y + chord.x * p.y + chord.y * p.x,
         }
     }
+}
+
+// Whether the offset leaves p where it is, at the angle th. At no offset zeros are added, which
+// changes nothing but a zero's sign; an angle that is infinite or no number adds a NaN.
+fn stays(p: Vec2, th: f32, offset: f32) -> bool
+    ensures { λ r. ⌜ r ≡ unmoved p th offset ⌝ }
+{
+    if offset == 0.0 {
+        if th - th == 0.0 {
+            if p.x != 0.0 {
+                return p.y != 0.0;
+            }
+        }
+    }
+    false
 }
 
 // A polynomial of 10th order for the integral of a spiral.

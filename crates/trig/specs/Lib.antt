@@ -5,4 +5,5 @@ pub mod Steady
 pub mod Flat
 pub mod TrigLaws
 pub mod Limits
+pub mod Direct
 pub mod TrigValues

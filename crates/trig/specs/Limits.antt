@@ -2,7 +2,7 @@
 use mathlib.Core.Path.{_≡_, refl, sym, ap, subst}
 use mathlib.Core.Bool.{Bool, true, false, not, _&&_, cond}
 use Prim.Native.Nat.{ℕ, zero, suc, _+_, _*_, _≤_, _<_}
-use native.Mathlib.Nat.{le-trans, le-of-eq, le-of-lt, lt-of-not-le, one-mul, mul-one, lt-irrefl, mul-pos, mul-le-mul-right, mul-lt-mul-of-pos-right, le-of-mul-le-mul-right, lt-of-mul-lt-mul-right, zero-lt-suc}
+use native.Mathlib.Nat.{le-trans, le-of-eq, le-of-lt, lt-of-not-le, lt-of-lt-of-le, one-mul, mul-one, lt-irrefl, mul-pos, mul-le-mul-right, mul-lt-mul-of-pos-right, le-of-mul-le-mul-right, lt-of-mul-lt-mul-right, zero-lt-suc}
 use native.Mathlib.Omega.{arith}
 use lib.IntN.{ℤ, pos, negsuc}
 use lib.Dec.{T, ltb→lt, lt→ltb, nltb→le}
@@ -16,7 +16,8 @@ use borrow.Author.Tests.{le-ltb, ne-eqb}
 use Rattle.laws.specs.Binary32.{_⊕_, _⊖_, _⊗_, _⊘_, f32}
 use Rattle.laws.specs.NotFinite.{unsigned, unsigned-round}
 use Rattle.laws.specs.Own.{zero-exp}
-use Rattle.laws.specs.Size.{lt-or-eq, zero-at-most}
+use Rattle.laws.specs.Same.{isZero, null, round-zero}
+use Rattle.laws.specs.Size.{AtMost, lt-or-eq, zero-at-most, round-at-most}
 use Rattle.laws.specs.Limits.{Held, Small, AtLeast, times, plus, turned, own, sum-least, div-is}
 use Rattle.numbers.specs.Words.{signOf, signed, absOf}
 use Rattle.numbers.specs.Limits.{signed-small, abs-small, abs-under, small-of-abs}
@@ -84,7 +85,7 @@ within-ones {b} {v} h =
 unfoldable pub sinLimit : Float → Float
 sinLimit a = let z = a ⊗ a in ((f32 0x394c6b2b ⊗ z ⊕ f32 0x3c08832c) ⊗ z ⊕ f32 0x3e2aaaa3) ⊗ (z ⊗ a) ⊕ a
 
-near-small : {a x : Float} → Small a x → Small (sinLimit a) (sinNear x)
+pub near-small : {a x : Float} → Small a x → Small (sinLimit a) (sinNear x)
 unfolding sinLimit sinNear
 near-small {a} {x} h =
     let z = times h h in
@@ -100,7 +101,7 @@ near-small {a} {x} h =
     first = unfold ofBits in unfold neg in turned (own (f32 0x3e2aaaa3) tt)
 
 -- below 0.78125 an angle is its own rest
-below-infinity : (a c : Float) → T (lt a c) → T (lt a infinity)
+pub below-infinity : (a c : Float) → T (lt a c) → T (lt a infinity)
 unfolding lt ofBits
 below-infinity nan c h = absurd h
 below-infinity (inf true) c h = tt
@@ -109,11 +110,11 @@ below-infinity (inf false) (inf t) h = absurd h
 below-infinity (inf false) (fin t n d) h = absurd h
 below-infinity (fin s m e) c h = tt
 
-sin-is : (x : Float) → T (lt (absOf x) infinity) → T (lt (absOf x) (f32 0x3f480000)) → sinOf x ≡ signed (signOf x) (boundedOf minusOne one (sinNear (absOf x)))
+pub sin-is : (x : Float) → T (lt (absOf x) infinity) → T (lt (absOf x) (f32 0x3f480000)) → sinOf x ≡ signed (signOf x) (boundedOf minusOne one (sinNear (absOf x)))
 unfolding sinOf reducedOf waveOf curveOf signed
 sin-is x f h = rw (is-true (lt (absOf x) infinity) f, is-true (lt (absOf x) (f32 0x3f480000)) h)
 
-cos-is : (x : Float) → T (lt (absOf x) infinity) → T (lt (absOf x) (f32 0x3f480000)) → cosOf x ≡ boundedOf minusOne one (cosNear (absOf x))
+pub cos-is : (x : Float) → T (lt (absOf x) infinity) → T (lt (absOf x) (f32 0x3f480000)) → cosOf x ≡ boundedOf minusOne one (cosNear (absOf x))
 unfolding cosOf reducedOf waveOf curveOf signed
 cos-is x f h = rw (is-true (lt (absOf x) infinity) f, is-true (lt (absOf x) (f32 0x3f480000)) h)
 
@@ -165,7 +166,7 @@ none-and-one : none ⊕ one ≡ one
 unfolding ofBits add
 none-and-one = refl
 
-cos-near-least : {a x : Float} → T (positive (one ⊖ cosDrop a)) → Small a x → AtLeast (one ⊖ cosDrop a) (cosNear x)
+pub cos-near-least : {a x : Float} → T (positive (one ⊖ cosDrop a)) → Small a x → AtLeast (one ⊖ cosDrop a) (cosNear x)
 unfolding cosNear
 cos-near-least p h = sum-least p one-least (drop-small h)
 
@@ -175,7 +176,7 @@ one-reached {a} p h = subst (λ (v : Float). AtLeast (one ⊖ cosDrop a) v) none
 some : (d x : ℕ) → 0 < d → 0 < 1 * 1 * d + x
 some d x h = omega arith
 
-over-minus-one : (w : Float) → T (above w) → T (lt minusOne w)
+pub over-minus-one : (w : Float) → T (above w) → T (lt minusOne w)
 unfolding lt ofBits
 over-minus-one nan h = absurd h
 over-minus-one (inf true) h = absurd h
@@ -243,6 +244,13 @@ slope (fin false p k) (fin false q j) u h l =
       small = record { held = le-of-lt g };
     }
 
+pub above-none : (m : ℕ) (e : ℤ) → T (lt (fin false 0 (pos 0)) (fin false (suc m) e))
+unfolding lt
+above-none m e = lt→ltb (0 * 1 * down e) (suc m * up e * 1) (some (down e) (suc m * up e) (mul-pos (zero-lt-suc m) (up-pos e)))
+  where
+    some : (w v : ℕ) → 0 < v → 0 * 1 * w < v * 1
+    some w v g = omega arith
+
 -- its own arc tangent, +0 too
 atan-none : atanNear (fin false 0 (pos 0)) ≡ fin false 0 (pos 0)
 unfolding atanNear add mul ofBits
@@ -254,11 +262,7 @@ atan-is (inf true) u f h = absurd u
 atan-is (inf false) u f h = unfold lt in absurd h
 atan-is (fin true q j) u f h = absurd u
 atan-is (fin false zero j) u f h = subst (λ (k : ℤ). atanNear (fin false 0 k) ≡ fin false 0 k) (sym (zero-exp binary32 false j f)) atan-none
-atan-is (fin false (suc q) j) u f h = flat (fin false (suc q) j) f
-    (unfold lt in lt→ltb (0 * 1 * down j) (suc q * up j * 1) (some (down j) (suc q * up j) (mul-pos (zero-lt-suc q) (up-pos j)))) h
-  where
-    some : (w v : ℕ) → 0 < v → 0 * 1 * w < v * 1
-    some w v g = omega arith
+atan-is (fin false (suc q) j) u f h = flat (fin false (suc q) j) f (above-none q j) h
 
 -- at a slope below 1, y is below x
 steep : (t : Float) → T (unsigned t) → T (lt t (fin false 1 (negsuc 13))) → T (le (fin false 1 (pos 0)) t) → ⊥
@@ -276,7 +280,8 @@ within-half-turn : {b v : Float} → Small b v → Small b (boundedOf none pi v)
 unfolding ofBits
 within-half-turn h = bounded-small false 0 (pos 0) 13176795 (negsuc 21) (λ g. none-small h) (λ g. over-top 13176795 (negsuc 21) g h) h
 
-module _ (a : Float) (n : ℕ) (d : ℤ) (m : ℕ) (e : ℤ) where
+-- the point (x, y), both finite, x above zero and y not below it
+module _ (n : ℕ) (d : ℤ) (m : ℕ) (e : ℤ) where
   abbrev y : Float
   y = fin false n d
 
@@ -289,10 +294,37 @@ module _ (a : Float) (n : ℕ) (d : ℤ) (m : ℕ) (e : ℤ) where
   abbrev Y : ℕ
   Y = suc m * up e * down d
 
-  module _ (h : T (lt (y ⊘ x) a)) (l : T (le a (fin false 1 (negsuc 13)))) where
-    bare : T (unsigned (y ⊘ x))
-    bare = subst (λ (t : Float). T (unsigned t)) (sym (div-is false n d false m e)) (unsigned-round binary32 X Y)
+  pub bare : T (unsigned (y ⊘ x))
+  bare = subst (λ (t : Float). T (unsigned t)) (sym (div-is false n d false m e)) (unsigned-round binary32 X Y)
 
+  Y-pos : 0 < Y
+  Y-pos = mul-pos (mul-pos (zero-lt-suc m) (up-pos e)) (down-pos d)
+
+  pub slope-none : n ≡ 0 → T (isZero (y ⊘ x))
+  slope-none z = rw (div-is false n d false m e, z, null (up d) (down e), round-zero binary32 false Y Y-pos) tt
+
+  -- y is below x
+  module _ (g : X < Y) where
+    pub slope-small : Small one (y ⊘ x)
+    unfolding ofBits round
+    slope-small = record { held = subst (λ (v : Float). AtMost 1 1 v) (sym (div-is false n d false m e)) (round-at-most false X Y 1 1 1 (pos 0) Y-pos (zero-lt-suc 0) (at-most X Y g) refl) }
+      where
+        at-most : (a b : ℕ) → a < b → a * 1 ≤ 1 * b
+        at-most a b h = omega arith
+
+    not-steep : lt x y ≡ false
+    unfolding lt
+    not-steep = le-ltb Y X (le-of-lt g)
+
+    not-level : eq y x ≡ false
+    unfolding eq
+    not-level = ap (λ (b : Bool). b && true) (ne-eqb X Y (λ e. lt-irrefl X (lt-of-lt-of-le g (le-of-eq (sym e)))))
+
+    pub angle-is : angleOf y x ≡ cond (eq y none) none (atanNear (y ⊘ x))
+    unfolding angleOf slopeOf absOf signed signOf
+    angle-is = rw (not-steep, not-level)
+
+  module _ (a : Float) (h : T (lt (y ⊘ x) a)) (l : T (le a (fin false 1 (negsuc 13)))) where
     its : Slope a (y ⊘ x)
     its = slope a (y ⊘ x) bare h l
 
@@ -301,29 +333,17 @@ module _ (a : Float) (n : ℕ) (d : ℤ) (m : ℕ) (e : ℤ) where
     lower g =
         steep (y ⊘ x) bare (its .thin)
         (subst (λ (t : Float). T (le (fin false 1 (pos 0)) t)) (sym (div-is false n d false m e))
-        (round-mono binary32 1 1 X Y (zero-lt-suc 0) (mul-pos (mul-pos (zero-lt-suc m) (up-pos e)) (down-pos d))
+        (round-mono binary32 1 1 X Y (zero-lt-suc 0) Y-pos
         (le-trans (le-of-eq (one-mul Y)) (le-trans g (le-of-eq (sym (mul-one X)))))))
-
-    not-steep : lt x y ≡ false
-    unfolding lt
-    not-steep = le-ltb Y X (le-of-lt (lt-of-not-le lower))
-
-    not-level : eq y x ≡ false
-    unfolding eq
-    not-level = ap (λ (b : Bool). b && true) (ne-eqb X Y (λ g. lower (le-of-eq (sym g))))
-
-    angle-is : angleOf y x ≡ cond (eq y none) none (atanNear (y ⊘ x))
-    unfolding angleOf slopeOf absOf signed signOf
-    angle-is = rw (not-steep, not-level)
 
     either-small : (b : Bool) → Small a (cond b none (atanNear (y ⊘ x)))
     either-small true = none-small (its .small)
     either-small false = subst (λ (t : Float). Small a t) (sym (atan-is (y ⊘ x) bare (div-fits binary32 y x) (its .thin))) (its .small)
 
     angle-small : Small a (boundedOf none pi (angleOf y x))
-    angle-small = subst (λ (v : Float). Small a (boundedOf none pi v)) (sym angle-is) (within-half-turn (either-small (eq y none)))
+    angle-small = subst (λ (v : Float). Small a (boundedOf none pi v)) (sym (angle-is (lt-of-not-le lower))) (within-half-turn (either-small (eq y none)))
 
-nothing-above : (a : Float) → T (lt (inf false) a) → ⊥
+pub nothing-above : (a : Float) → T (lt (inf false) a) → ⊥
 unfolding lt
 nothing-above nan h = h
 nothing-above (inf t) h = h
@@ -338,5 +358,5 @@ atan2-small y (fin false zero e) a p h l = absurd p
 atan2-small nan (fin false (suc m) e) a p h l = unfold div in unfold lt in absurd h
 atan2-small (inf true) (fin false (suc m) e) a p h l = unfold neg in unfold div in absurd (nothing-above a h)
 atan2-small (inf false) (fin false (suc m) e) a p h l = unfold div in absurd (nothing-above a h)
-atan2-small (fin true n d) (fin false (suc m) e) a p h l = unfold neg in turned (angle-small a n d m e h l)
-atan2-small (fin false n d) (fin false (suc m) e) a p h l = angle-small a n d m e h l
+atan2-small (fin true n d) (fin false (suc m) e) a p h l = unfold neg in turned (angle-small n d m e a h l)
+atan2-small (fin false n d) (fin false (suc m) e) a p h l = angle-small n d m e a h l

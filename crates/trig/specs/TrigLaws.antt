@@ -139,7 +139,7 @@ unfolding atan2Of le ofBits neg
 atan2-range y x h k = rw (is-false (isNan y) h, is-false (isNan x) k) (signed-within pi (signOf y) _ (bounded-within minusPi zero pi (under-zero 13176794 (negsuc 21)) tt tt tt tt _))
 
 -- ---- asin lies in -π/2 to π/2 and acos in 0 to π; outside -1 to 1 they are NaN
-neg-minus-one : neg minusOne ≡ one
+pub neg-minus-one : neg minusOne ≡ one
 unfolding neg ofBits
 neg-minus-one = refl
 

@@ -17,6 +17,9 @@ const HALF_PI: f32 = 1.57079637;
 
 const PI: f32 = 3.14159274;
 
+// 0.78125 squared: an angle with a smaller square is below 0.78125, whatever its sign.
+const NEAR: f32 = 0.6103515625;
+
 // v brought between lo and hi. A NaN becomes lo.
 fn bounded(lo: f32, hi: f32, v: f32) -> f32
     ensures { λ r. ⌜ r ≡ boundedOf lo hi v ⌝ }
@@ -170,15 +173,29 @@ fn cosine(a: f32) -> f32
     far(1, a)
 }
 
+// Most angles are small, and the sum of such a one lies between the bounds and has its sign, unless it is a zero.
 pub fn sin(x: f32) -> f32
     ensures { λ r. ⌜ r ≡ sinOf x ⌝ }
 {
+    if x * x < NEAR {
+        let s = sin_near(x);
+        if s != 0.0 {
+            return s;
+        }
+    }
     turned(is_negative(x), sine(abs(x)))
 }
 
+// The sum of a small angle is above 0, and the same of either sign.
 pub fn cos(x: f32) -> f32
     ensures { λ r. ⌜ r ≡ cosOf x ⌝ }
 {
+    if x * x < NEAR {
+        let c = cos_near(x);
+        if c < 1.0 {
+            return c;
+        }
+    }
     cosine(abs(x))
 }
 
@@ -230,16 +247,28 @@ fn angle(y: f32, x: f32) -> f32
     if left { PI - p } else { p }
 }
 
+// Where |y| is below x, the sum of the slope itself is the angle, if it has the slope's sign. A smaller slope than 2^-14 is left to `angle`: powers of it
+// may be subnormal, which take long on some processors.
 pub fn atan2(y: f32, x: f32) -> f32
     ensures { λ r. ⌜ r ≡ atan2Of y x ⌝ }
 {
+    let a = abs(y);
+    if a < x {
+        let t = y / x;
+        if 3.7252903e-9 <= t * t {
+            let r = atan_near(t);
+            if 0.0 < r * t {
+                return r;
+            }
+        }
+    }
     if is_nan(y) {
         return 0.0 / 0.0;
     }
     if is_nan(x) {
         return 0.0 / 0.0;
     }
-    turned(is_negative(y), bounded(0.0, PI, angle(abs(y), x)))
+    turned(is_negative(y), bounded(0.0, PI, angle(a, x)))
 }
 
 // The arc sine of s, up to a half, with z its square.
