@@ -96,7 +96,7 @@ pub fn tip_at(points: [Vec2; 4], t: f32) -> Tip
 pub fn params_of(from: Tip, to: Tip, scale: f32) -> CubicParams
     ensures { λ r. ⌜ Judged scale (paramsOf from to) r ⌝ }
 {
-    CubicParams::from_points_derivs(from.p, to.p, from.q, to.q, to.t - from.t, scale)
+    CubicParams::judged(from.p, to.p, from.q, to.q, to.t - from.t, scale)
 }
 
 // The number of lines for curvature 1.

@@ -189,6 +189,9 @@ zero-held (inf false) v s e h = tt
 zero-held (fin true p k) v s e h = absurd h
 zero-held (fin false p k) v s e h = zero-at-most s e (p * up k) (down k)
 
+pub zero-small : {b v : Float} (s : Bool) (e : ℤ) → Small b v → Small b (fin s zero e)
+zero-small {b} {v} s e h = record { held = zero-held b v s e (h .held) }
+
 without-zero : (b x : Float) → T (fits binary32 x) → Held b (x ⊕ whole 0) → Held b x
 unfolding round
 without-zero b nan f h = unfold add in h

@@ -29,7 +29,7 @@ fn cubic(v: [f32; 10]) -> Answer {
     let p1 = Vec2::new(v[2], v[3]);
     let q0 = Vec2::new(v[4], v[5]);
     let q1 = Vec2::new(v[6], v[7]);
-    let c = CubicParams::from_points_derivs(p0, p1, q0, q1, v[8], 0.0);
+    let c = CubicParams::from_points_derivs(p0, p1, q0, q1, v[8]);
     Answer(c.th0, c.th1, c.chord_len, c.err)
 }
 

@@ -1,18 +1,19 @@
 -- The error of a fit is only held to the tolerance: what may stand for it there, and why. Assumes nothing.
 use mathlib.Core.Path.{_≡_, refl, sym, ap, _∙_, subst}
 use mathlib.Core.Bool.{Bool, true, false, _&&_}
-use Prim.Native.Nat.{ℕ, _*_, _^_}
-use native.Mathlib.Nat.{le-refl, not-le-of-lt, zero-lt-suc}
-use lib.Dec.{T, ltb→lt}
-use lib.Ieee.{Float, nan, inf, fin, binary32, up, down, round, fits, lt, le}
+use Prim.Native.Nat.{ℕ, _^_}
+use native.Mathlib.Nat.{le-refl, zero-lt-suc}
+use lib.Dec.{T}
+use lib.Ieee.{Float, nan, inf, fin, binary32, round, fits, lt, le}
 use lib.Ieee.Bits.{is-true}
 use lib.Ieee.Fits.{and-l, and-r, and-i}
 use Rattle.laws.specs.Binary32.{_⊕_, _⊗_, dec, whole}
 use Rattle.laws.specs.NotFinite.{unsigned, unsigned-round, unsigned-mul}
-use Rattle.laws.specs.Size.{widened, lt-or-eq}
+use Rattle.laws.specs.Size.{widened}
 use Rattle.laws.specs.Limits.{Small, times, plus, own, decimal, more, most}
 use Rattle.maths.specs.Numbers.{absOf, small-of-abs}
 use Rattle.maths.specs.Roots.{hypotOf, hypot-small}
+use Rattle.maths.specs.Trig.{lt-not-le}
 use Rattle.spiral.specs.declared.euler.CubicParams.{CubicParams}
 
 abbrev pub tolerance : Float
@@ -37,6 +38,16 @@ stands-itself length scale x = record { near = refl; bare = λ (e : lt (whole 0)
 pub judged-itself : (scale : Float) (c : CubicParams) → Judged scale c c
 judged-itself scale c = record { start = refl; end = refl; long = refl; near = refl; bare = λ (e : lt (whole 0) scale ≡ false). refl }
 
+-- at no scale it is all of it
+pub unscaled : (scale : Float) (exact got : CubicParams) → lt (whole 0) scale ≡ false → Judged scale exact got → got ≡ exact
+unscaled scale exact got e h = same (h .start) (h .end) (h .long) (h .bare e)
+  where
+    built : Float → Float → Float → Float → CubicParams
+    built a b c d = record { th0 = a; th1 = b; «chord_len» = c; err = d }
+
+    same : {a b c d a' b' c' d' : Float} → a ≡ a' → b ≡ b' → c ≡ c' → d ≡ d' → built a b c d ≡ built a' b' c' d'
+    same p q r s = cc
+
 pub judged-by : (th0 th1 length scale exact r : Float) → Stands length scale exact r
     → Judged scale (record { th0 = th0; th1 = th1; «chord_len» = length; err = exact ⊗ length }) (record { th0 = th0; th1 = th1; «chord_len» = length; err = r ⊗ length })
 judged-by th0 th1 length scale exact r h =
@@ -57,18 +68,10 @@ close-by x y h =
     let b = small-of-abs y (dec 125 3) tt (and-r (le (absOf x) (dec 125 3)) (le (absOf y) (dec 125 3)) h) in
     record { held = widened (hypotOf x y) 2 8 1 4 (zero-lt-suc 7) (le-refl 8) (hypot-small (dec 125 3) x y tt tt tt (a .held) (b .held)) }
 
--- ---- no number is above the tolerance and within it
-apart : (x : Float) → T (lt tolerance x) → T (le x tolerance) → ⊥
-unfolding round lt le
-apart nan h l = absurd h
-apart (inf true) h l = absurd h
-apart (inf false) h l = absurd l
-apart (fin true m e) h l = absurd h
-apart (fin false m e) h l = not-le-of-lt (ltb→lt (1 * 1 * down e) (m * up e * 4) h) (lt-or-eq (m * up e * 4) (1 * 1 * down e) l)
-
+-- ---- what is held to a number is above the tolerance only where that is
 no-more : (a x : Float) → T (lt tolerance x) → Small a x → le a tolerance ≡ false
 unfolding round
-no-more a x h l = go (le a tolerance) (λ (g : T (le a tolerance)). apart x h (most tolerance (and-i (le a tolerance) true g tt) l))
+no-more a x h l = go (le a tolerance) (λ (g : T (le a tolerance)). subst T (lt-not-le tolerance x h) (most tolerance (and-i (le a tolerance) true g tt) l))
   where
     go : (b : Bool) → (T b → ⊥) → b ≡ false
     go true f = absurd (f tt)

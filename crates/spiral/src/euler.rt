@@ -183,16 +183,16 @@ fn long_chord(
 }
 
 impl CubicParams {
-    // From the ends, the derivatives there, and the length of the parameter's range. The error is that of the fit, or another that is within the tolerance at
-    // this scale exactly where that is; at a scale of 0 it is that of the fit.
-    pub fn from_points_derivs(
-        p0: Vec2,
-        p1: Vec2,
-        q0: Vec2,
-        q1: Vec2,
-        dt: f32,
-        scale: f32,
-    ) -> CubicParams
+    // From the ends, the derivatives there, and the length of the parameter's range.
+    pub fn from_points_derivs(p0: Vec2, p1: Vec2, q0: Vec2, q1: Vec2, dt: f32) -> CubicParams
+        ensures { λ r. ⌜ r ≡ fromPointsDerivs p0 p1 q0 q1 dt ⌝ }
+    {
+        CubicParams::judged(p0, p1, q0, q1, dt, 0.0)
+    }
+
+    // The same, for whoever only asks whether the error is within the tolerance at a scale: it may be another that is so exactly where that is. At a scale of 0 it
+    // is that.
+    pub fn judged(p0: Vec2, p1: Vec2, q0: Vec2, q1: Vec2, dt: f32, scale: f32) -> CubicParams
         ensures { λ r. ⌜ Judged scale (fromPointsDerivs p0 p1 q0 q1 dt) r ⌝ }
     {
         let chord = p1.sub(p0);

@@ -17,8 +17,8 @@ use Rattle.laws.specs.Binary32.{_⊕_, _⊖_, _⊗_, _⊘_, f32}
 use Rattle.laws.specs.NotFinite.{unsigned, unsigned-round}
 use Rattle.laws.specs.Own.{zero-exp}
 use Rattle.laws.specs.Same.{isZero, null, round-zero}
-use Rattle.laws.specs.Size.{AtMost, lt-or-eq, zero-at-most, round-at-most}
-use Rattle.laws.specs.Limits.{Held, Small, AtLeast, times, plus, turned, own, sum-least, div-is}
+use Rattle.laws.specs.Size.{AtMost, lt-or-eq, round-at-most}
+use Rattle.laws.specs.Limits.{Held, Small, AtLeast, times, plus, turned, own, zero-small, sum-least, div-is}
 use Rattle.numbers.specs.Words.{signOf, signed, absOf}
 use Rattle.numbers.specs.Limits.{signed-small, abs-small, abs-under, small-of-abs}
 use Rattle.trig.specs.Trig.{zero as none, one, minusOne, pi, infinity, boundedOf, sinNear, cosNear, reducedOf, curveOf, waveOf, sinOf, cosOf, atanNear, slopeOf, angleOf, atan2Of}
@@ -147,16 +147,9 @@ drop-small {a} {x} h =
     first = unfold ofBits in unfold neg in turned (own (f32 0x3effffdf) tt)
 
 -- nothing added is held to whatever something is
-none-held : (b v : Float) → Held b v → Held b none
-unfolding ofBits
-none-held nan v h = tt
-none-held (inf true) v h = h
-none-held (inf false) v h = tt
-none-held (fin true p k) v h = absurd h
-none-held (fin false p k) v h = zero-at-most false (pos 0) (p * up k) (down k)
-
 none-small : {b v : Float} → Small b v → Small b none
-none-small {b} {v} h = record { held = none-held b v (h .held) }
+unfolding ofBits
+none-small h = zero-small false (pos 0) h
 
 one-least : AtLeast one one
 unfolding ofBits le

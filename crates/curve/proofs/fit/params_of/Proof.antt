@@ -5,7 +5,7 @@ use Rattle.curve.proofs.fit.params_of.Tie as tie
 
 returns : tie.Need-returns
 unfolding paramsOf
-returns c = c .from-points-derivs .ensures
+returns c = c .judged .ensures
 
 pub params-of-spec : {M : Type 1} → statement M
 params-of-spec = tie.close (tie.spec (λ c κs. tt) returns)
