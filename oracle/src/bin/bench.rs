@@ -2,7 +2,7 @@
 
 use std::hint::black_box;
 use std::process::ExitCode;
-use std::time::Duration;
+use std::time::{Duration, Instant};
 
 use hinthevoun::{Layout, PathBox};
 use oracle::drafts::{Encoded, Figures, KINDS, LINES};
@@ -17,6 +17,9 @@ const GROWTH: [usize; 5] = [1_000, 10_000, 100_000, 1_000_000, 10_000_000];
 const LEEWAY: u32 = 1_000;
 /// A middle round that takes so much longer than the least one tells of a machine that does not let anything be timed.
 const DISTURBED: f64 = 1.25;
+/// The two clocks of a round may be apart by what it takes to read them, and by one part in so many.
+const READING: Duration = Duration::from_micros(2);
+const APART: u32 = 50;
 
 const NO_LINE: LineSoup = LineSoup { path_ix: 0, _padding: 0, p0: [0.; 2], p1: [0.; 2] };
 
@@ -85,18 +88,50 @@ impl Desk {
     }
 }
 
-/// The times of one thing, in order of size.
-struct Times(Vec<Duration>);
+/// What a round took, by the processor's clock of this thread and by the clock on the wall.
+struct Round {
+    processor: Duration,
+    wall: Duration,
+}
+
+impl Round {
+    fn of(run: impl FnOnce()) -> Self {
+        let (wall, start) = (Instant::now(), processor_time());
+        run();
+        Self { processor: processor_time() - start, wall: wall.elapsed() }
+    }
+
+    /// Whether the processor was this thread's throughout. Where it was not, a machine that is lent out may take more
+    /// off the thread's clock than others had of it, up to the whole round.
+    fn is_whole(&self) -> bool {
+        self.wall <= self.processor + self.processor / APART + READING
+    }
+}
+
+/// The times of one thing by the processor, in order of size.
+struct Times {
+    sorted: Vec<Duration>,
+    /// Whether they are those of whole rounds. Where something broke into each, they are those of all.
+    whole: bool,
+}
 
 impl Times {
+    fn of(rounds: &[Round]) -> Self {
+        let whole = rounds.iter().any(Round::is_whole);
+        let counting = rounds.iter().filter(|round| !whole || round.is_whole());
+        let mut sorted: Vec<Duration> = counting.map(|round| round.processor).collect();
+        sorted.sort_unstable();
+        Self { sorted, whole }
+    }
+
     /// The least one, in nanoseconds per part.
     fn per(&self, parts: u32) -> f64 {
-        self.0[0].as_secs_f64() * 1e9 / f64::from(parts)
+        self.sorted[0].as_secs_f64() * 1e9 / f64::from(parts)
     }
 
     /// How many times the least one the middle one is.
     fn spread(&self) -> f64 {
-        self.0[self.0.len() / 2].as_secs_f64() / self.0[0].as_secs_f64()
+        self.sorted[self.sorted.len() / 2].as_secs_f64() / self.sorted[0].as_secs_f64()
     }
 }
 
@@ -119,26 +154,17 @@ fn processor_time() -> Duration {
     Duration::new(time.seconds as u64, time.nanoseconds as u32)
 }
 
-fn time_of(run: impl FnOnce()) -> Duration {
-    let start = processor_time();
-    run();
-    processor_time() - start
-}
-
 /// The things in turn, round after round, so that what disturbs one disturbs all.
 fn times<const N: usize>(mut run: impl FnMut(usize)) -> [Times; N] {
-    let first: Duration = (0..N).map(|which| time_of(|| run(which))).sum();
-    let rounds = (PATIENCE.as_nanos() / first.as_nanos().max(1)) as usize;
-    let mut times = [const { Vec::new() }; N];
-    for _ in 0..rounds.max(LEAST_ROUNDS) {
-        for (which, times) in times.iter_mut().enumerate() {
-            times.push(time_of(|| run(which)));
+    let first: Duration = (0..N).map(|which| Round::of(|| run(which)).wall).sum();
+    let count = (PATIENCE.as_nanos() / first.as_nanos().max(1)) as usize;
+    let mut rounds = [const { Vec::new() }; N];
+    for _ in 0..count.max(LEAST_ROUNDS) {
+        for (which, rounds) in rounds.iter_mut().enumerate() {
+            rounds.push(Round::of(|| run(which)));
         }
     }
-    times.map(|mut times| {
-        times.sort_unstable();
-        Times(times)
-    })
+    rounds.map(|rounds| Times::of(&rounds))
 }
 
 /// So many figures that they have about so many lines.
@@ -163,6 +189,8 @@ struct Row {
     /// Whether the counts of lines are the same, or nearly.
     alike: bool,
     spread: f64,
+    /// Whether each of its times is a whole round's.
+    whole: bool,
 }
 
 impl Row {
@@ -189,6 +217,7 @@ impl Row {
             cells: format!("{} | {}", side([rust, port]), side([rust_cleared, port_cleared])),
             alike: rust_count.abs_diff(port_count) <= rust_count / LEEWAY,
             spread: times.iter().map(Times::spread).fold(1., f64::max),
+            whole: times.iter().all(|times| times.whole),
         }
     }
 }
@@ -230,6 +259,10 @@ fn main() -> ExitCode {
         println!(
             "That is far: other work disturbed the times, and the ratios may be off. Try again on a quiet machine."
         );
+    }
+    let broken = rows.iter().filter(|row| !row.whole).count();
+    if broken > 0 {
+        println!("In {broken} rows something broke into every round of one side: its time may be too short.");
     }
     if rows.iter().all(|row| row.alike) {
         return ExitCode::SUCCESS;
