@@ -7,4 +7,5 @@ pub mod Sounds
 pub mod Walking
 pub mod Deals
 pub mod Walks
+pub mod Stretches
 pub mod Calls

@@ -58,6 +58,9 @@ pub symbol-mark : (b : ℕ) → digitByte b ≡ false → whiteByte b ≡ false 
 unfolding symbolOf
 symbol-mark b h k = sym (pick-no _ _ _ h ∙ pick-no _ _ _ k)
 
+pub below-power : (x y n : ℕ) → x ≤ y → n < 10 ^ x → n < 10 ^ y
+below-power x y n l h = lt-of-lt-of-le h (pow-le-pow-right {n = 10} (omega arith) {i = x} {j = y} l)
+
 -- a number that has room for one more digit
 pub room : (b c n : ℕ) → b + c ≤ 17 → n < 10 ^ (b + c) → n < 100000000000000000
-room b c n l h = lt-of-lt-of-le h (pow-le-pow-right {n = 10} (omega arith) {i = b + c} {j = 17} l)
+room b c n l h = below-power (b + c) 17 n l h

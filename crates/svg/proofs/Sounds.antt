@@ -52,7 +52,7 @@ pub finished-sound : (s : State) → Sound s → Sound (finished s)
 finished-sound s S = record { group = next-lt (s .kind) (s .have) (S .group); held = S .held }
 
 -- one digit more
-digit-small : (x y n d : ℕ) → y ≡ suc x → n < 10 ^ x → d ≤ 9 → n * 10 + d < 10 ^ y
+pub digit-small : (x y n d : ℕ) → y ≡ suc x → n < 10 ^ x → d ≤ 9 → n * 10 + d < 10 ^ y
 digit-small x y n d e h l =
     let p : 10 ^ y ≡ 10 ^ x * 10 = ap (λ (z : ℕ). 10 ^ z) e ∙ pow-suc 10 x in
     subst (λ (z : ℕ). n * 10 + d < z) (sym p) (at (10 ^ x) h)

@@ -25,10 +25,12 @@ use Rattle.svg.specs.declared.reader.Way.{Way}
 use Rattle.svg.specs.declared.reader.Way.the-variants.{On, Over}
 use Rattle.svg.specs.Language.{pick, arity, symbolOf, markOf, letterOf, digitByte, whiteByte, symbols}
 use Rattle.svg.specs.Machine.{numberOf, moved, ended, finished, inNumber, digitOf}
+use Rattle.svg.specs.Machine.{Sound as SoundState}
 use Rattle.svg.specs.Meaning.{wordOf}
 use Rattle.svg.specs.Hands.{commandBy, counted, onward}
 use Rattle.svg.specs.Import.{Told, told, importOf}
 use Rattle.svg.specs.Walk.{walk, readBy, Left, left, settled, numberBy, actBy, thenStep, oneBy, lastBy, readInto, startOf, Sound}
+use Rattle.svg.specs.Stretch.{Onward}
 use Rattle.svg.proofs.Reading.{pick-yes, pick-no, digit-bounds}
 use Rattle.svg.proofs.Places.{fresh}
 use Rattle.svg.proofs.Walking.{SoundLeft, number-sound, one-sound}
@@ -126,21 +128,21 @@ here-start text pen tags points w e =
       rest = ap (λ (w : Walk). readInto 0 (left (On w) tags points) (symbols text)) e ∙ import-is text pen tags points;
     }
 
-module _ {text : List ℕ} {pen₀ : Pen} {tags₀ points₀ tags points : List ℕ} {w : Walk} {i : ℕ} (h : Here text pen₀ tags₀ points₀ tags points w i) where
-  unread : (y : Symbol) → y ≡ symbolOf (getD text i 0) → i < length text → symbols (drop i text) ≡ y ∷ symbols (drop (i + 1) text)
-  unfolding symbols
-  unread y e l =
-      ap symbols (drop-cons text i 0 l)
-      ∙ ap (λ (y : Symbol). y ∷ symbols (drop (suc i) text)) (sym e)
-      ∙ ap (λ (j : ℕ). y ∷ symbols (drop j text)) (sym (add-one i))
+pub unread : (text : List ℕ) (i : ℕ) (y : Symbol) → y ≡ symbolOf (getD text i 0) → i < length text → symbols (drop i text) ≡ y ∷ symbols (drop (i + 1) text)
+unfolding symbols
+unread text i y e l =
+    ap symbols (drop-cons text i 0 l)
+    ∙ ap (λ (y : Symbol). y ∷ symbols (drop (suc i) text)) (sym e)
+    ∙ ap (λ (j : ℕ). y ∷ symbols (drop j text)) (sym (add-one i))
 
+module _ {text : List ℕ} {pen₀ : Pen} {tags₀ points₀ tags points : List ℕ} {w : Walk} {i : ℕ} (h : Here text pen₀ tags₀ points₀ tags points w i) where
   -- the step that was taken, and what is left then
   read-one : (v : Way) (ts ps : List ℕ) (y : Symbol) → i < length text → y ≡ symbolOf (getD text i 0) → left v ts ps ≡ oneBy w i y tags points
       → readInto (i + 1) (left v ts ps) (symbols (drop (i + 1) text)) ≡ importOf text pen₀ tags₀ points₀
   unfolding readInto
   read-one v ts ps y l e o =
       ap (λ (o : Left). readInto (i + 1) o (symbols (drop (i + 1) text))) o
-      ∙ ap (λ (ys : List Symbol). readInto i (left (On w) tags points) ys) (sym (unread y e l))
+      ∙ ap (λ (ys : List Symbol). readInto i (left (On w) tags points) ys) (sym (unread text i y e l))
       ∙ h .rest
 
   pub here-step : (v : Walk) (q : Way) (ts ps : List ℕ) (y : Symbol) → i < length text → y ≡ symbolOf (getD text i 0) → length ts ≡ length tags → length ps ≡ length points
@@ -183,9 +185,9 @@ module _ {text : List ℕ} {pen₀ : Pen} {tags₀ points₀ tags points : List 
         same-tags = st ∙ h .same-tags;
         same-points = sp ∙ h .same-points;
         rest =
-            ap (λ (ys : List Symbol). readInto i (left (On v) ts ps) ys) (unread y e l)
+            ap (λ (ys : List Symbol). readInto i (left (On v) ts ps) ys) (unread text i y e l)
             ∙ ap (λ (o : Left). readInto (i + 1) o (symbols (drop (i + 1) text))) again
-            ∙ ap (λ (ys : List Symbol). readInto i (left (On w) tags points) ys) (sym (unread y e l))
+            ∙ ap (λ (ys : List Symbol). readInto i (left (On w) tags points) ys) (sym (unread text i y e l))
             ∙ h .rest;
       }
 
@@ -196,8 +198,8 @@ module _ {text : List ℕ} {pen₀ : Pen} {tags₀ points₀ tags points : List 
       omega (arith, a, ended-in (w .state .place) y e)
 
   -- a byte that is read; the equations name the state and the reader behind it
-  pub less-go : (s : State) (taken : Step) → taken ≡ Go s → i < length text → toGo text (walk s (w .hand) (w .pen)) (i + 1) < toGo text w i
-  less-go s taken e l = omega (arith, at-most (inNumber (s .place)))
+  pub less-go : (s t : State) (j : ℕ) → Onward text s (i + 1) t j → i < length text → toGo text (walk t (w .hand) (w .pen)) j < toGo text w i
+  less-go s t j o l = let on = o .on in omega (arith, at-most (inNumber (t .place)))
 
   pub less-on : (v : Walk) (q : Way) → q ≡ On v → i < length text → toGo text v (i + 1) < toGo text w i
   less-on v q e l = omega (arith, at-most (inNumber (v .state .place)))
@@ -213,5 +215,20 @@ module _ {text : List ℕ} {pen₀ : Pen} {tags₀ points₀ tags points : List 
     pub as-one : (q : Way) (ts ps : List ℕ) → left q ts ps ≡ actBy (w .hand) (w .pen) i taken tags points → left q ts ps ≡ oneBy w i y tags points
     as-one q ts ps o = o ∙ rw (n, t)
 
-    pub here-go : (s : State) → i < length text → y ≡ symbolOf (getD text i 0) → taken ≡ Go s → Here text pen₀ tags₀ points₀ tags points (walk s (w .hand) (w .pen)) (i + 1)
+    here-go : (s : State) → i < length text → y ≡ symbolOf (getD text i 0) → taken ≡ Go s → Here text pen₀ tags₀ points₀ tags points (walk s (w .hand) (w .pen)) (i + 1)
     here-go s l e g = here-step (walk s (w .hand) (w .pen)) (On (walk s (w .hand) (w .pen))) tags points y l e refl refl (as-one (On (walk s (w .hand) (w .pen))) tags points (rw g)) refl
+
+    pub go-sound : (s : State) → i < length text → y ≡ symbolOf (getD text i 0) → taken ≡ Go s → SoundState s × (i + 1 ≤ length text)
+    go-sound s l e g = let here = here-go s l e g in (here .sound .state, here .within)
+
+    -- a byte that is read, and what stands behind it at a stretch
+    pub here-on : (s t : State) (j : ℕ) → i < length text → y ≡ symbolOf (getD text i 0) → taken ≡ Go s → Onward text s (i + 1) t j → Here text pen₀ tags₀ points₀ tags points (walk t (w .hand) (w .pen)) j
+    here-on s t j l e g o =
+        let here = here-go s l e g in
+        record {
+          within = o .within;
+          sound = record { state = o .sound; hand = here .sound .hand };
+          same-tags = here .same-tags;
+          same-points = here .same-points;
+          rest = sym (o .same (w .hand) (w .pen) tags points) ∙ here .rest;
+        }

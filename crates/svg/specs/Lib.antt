@@ -1,4 +1,4 @@
--- What the contracts cite: `Decimal`, `Language`, `Machine`, `Meaning`, `Import`; inside, `Hands` and `Walk`. What is proved of them: `Unique`, `Exactly`, `GoesOn`, `First`, `Room`, `FirstByte`; `Examples`.
+-- What the contracts cite: `Decimal`, `Language`, `Machine`, `Meaning`, `Import`; inside, `Hands`, `Walk` and `Stretch`. What is proved of them: `Unique`, `Exactly`, `GoesOn`, `First`, `Room`, `FirstByte`; `Examples`.
 pub mod Decimal
 pub mod Language
 pub mod Machine
@@ -6,6 +6,7 @@ pub mod Meaning
 pub mod Import
 pub mod Hands
 pub mod Walk
+pub mod Stretch
 pub mod Fold
 pub mod Unique
 pub mod Exactly

@@ -3,3 +3,4 @@ pub mod decimal;
 pub mod hand;
 pub mod reader;
 pub mod steps;
+pub mod stretch;

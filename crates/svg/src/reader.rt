@@ -23,6 +23,7 @@ use crate::steps::number_ended;
 use crate::steps::number_word;
 use crate::steps::step_at;
 use crate::steps::symbol_at;
+use crate::stretch::number_on;
 use pattern::commands::end;
 use pattern::pen::Drew;
 use pattern::pen::Pen;
@@ -219,7 +220,7 @@ fn begin(pen: Pen) -> Walk
 }
 
 // Draws a text behind what the pen has drawn. A byte that ends a number is looked at again, behind the number; most bytes change
-// the state alone.
+// the state alone, and those that go on a number are read at a stretch.
 pub fn read(text: &[u8], pen: Pen, tags: &mut [u8], points: &mut [u32]) -> Done
     ensures { λ r. ⌜ told r (now (tags .exit)) (now (points .exit)) ≡ importOf (now (text .entry)) pen (now (tags .entry)) (now (points .entry)) ⌝ }
 {
@@ -238,8 +239,10 @@ pub fn read(text: &[u8], pen: Pen, tags: &mut [u8], points: &mut [u32]) -> Done
         }
         let taken = step_at(state, i, y);
         if let Step::Go(s) = taken {
-            w.state = s;
-            i += 1;
+            let stand = number_on(text, i + 1, s);
+            let then = stand.state;
+            w.state = then;
+            i = stand.at;
             continue;
         }
         let hand = w.hand;

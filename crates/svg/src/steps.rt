@@ -92,7 +92,7 @@ pub enum Verdict {
     Refused(Fault, usize),
 }
 
-fn digit_byte(b: u8) -> bool
+pub(crate) fn digit_byte(b: u8) -> bool
     ensures { λ r. ⌜ r ≡ digitByte b ⌝ }
 {
     if b < 48 {
