@@ -3,6 +3,10 @@
 
 set -o pipefail # make_current asks how rt ended
 
+# So many crates or edits are proved at a time. rt waits for all of them before it begins the next, so that with one for each
+# of two processors one of these is often idle.
+export RT_JOBS=${RT_JOBS:-4}
+
 say() { echo "$0: $*" >&2; }
 
 command -v rt >/dev/null || { say "there is no rt on the PATH; it is in the folder bin of Rattle's kit"; exit 2; }
