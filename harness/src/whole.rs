@@ -462,22 +462,14 @@ fn large() -> Asked {
     Asked { text: text.into_bytes(), transform: [40.0, 0.0, 0.0, -40.0, 0.0, 0.0], table: Table::New, rooms }
 }
 
-/// Rounds that are timed, and how many more where these are not within the limit yet: a machine that is lent out is slower
-/// for seconds at a time, and may have been so for one side alone.
-const ROUNDS: usize = 5;
-const MORE_ROUNDS: usize = 10;
-
-/// Seconds of the processor for the call and for its parts by themselves, on the same lists, the least of the rounds; and how
+/// Seconds of the processor for the call and for its parts by themselves, on the same lists, the least of some rounds; and how
 /// many lines were drawn.
 fn times() -> ([f64; 2], usize) {
     let asked = large();
     let mut lists = Lists::marked(asked.rooms);
     let mut least = [f64::MAX; 2];
     let mut lines = 0;
-    for round in 0..ROUNDS + MORE_ROUNDS {
-        if round >= ROUNDS && least[0] <= MOST * least[1] {
-            break;
-        }
+    for _ in 0..5 {
         let start = report::used();
         black_box(lists.cut(black_box(&asked))).expect("it is accepted, and there is room");
         let between = report::used();

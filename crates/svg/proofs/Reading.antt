@@ -1,6 +1,6 @@
 -- Bytes and their symbols, and room for one more digit. Assumes nothing.
 use mathlib.Core.Path.{_≡_, refl, sym, ap, _∙_, subst}
-use mathlib.Core.Bool.{Bool, true, false}
+use mathlib.Core.Bool.{Bool, true, false, false≢true}
 use Prim.Native.Nat.{ℕ, suc, _+_, _-_, _*_, _^_, _≤_, _<_}
 use native.Mathlib.Nat.{lt-of-lt-of-le, pow-le-pow-right}
 use native.Mathlib.Omega.{arith}
@@ -17,6 +17,10 @@ pick-no t x y e = ap (λ (t : Bool). pick t x y) e
 
 pub pick-yes : {A : Type 0} (t : Bool) (x y : A) → t ≡ true → pick t x y ≡ x
 pick-yes t x y e = ap (λ (t : Bool). pick t x y) e
+
+pub both : (t u : Bool) → pick t u false ≡ true → (t ≡ true) × (u ≡ true)
+both true u e = (refl, e)
+both false u e = absurd (false≢true e)
 
 pub letter-rest : (b : ℕ) → (b ≡ 77 → ⊥) → (b ≡ 76 → ⊥) → (b ≡ 81 → ⊥) → (b ≡ 67 → ⊥) → (b ≡ 90 → ⊥) → Other ≡ letterOf b
 unfolding letterOf

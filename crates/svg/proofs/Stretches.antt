@@ -4,8 +4,8 @@ use mathlib.Core.Bool.{Bool, true, false}
 use mathlib.Core.List.{List}
 use Prim.Native.Nat.{ℕ, _+_, _-_, _*_, _^_, _≤_, _<_}
 use native.Mathlib.Omega.{arith}
-use borrow.Author.Tests.{lt-ltb, ltb-true, ltb-false}
-use lib.Dec.{ltb}
+use borrow.Author.Tests.{lt-ltb, ltb-true, ltb-false, eqb-true}
+use lib.Dec.{ltb, eqb}
 use lib.ListN.{length, drop, getD}
 use Rattle.pattern.specs.declared.pen.Pen.{Pen}
 use Rattle.svg.specs.declared.steps.Kind.{Kind}
@@ -22,8 +22,8 @@ use Rattle.svg.specs.declared.reader.Way.the-variants.{On}
 use Rattle.svg.specs.Language.{digitByte, symbolOf, markOf, symbols}
 use Rattle.svg.specs.Machine.{num, st, moved, ended, wholeEnds, fractionEnds, digitOf, Sound}
 use Rattle.svg.specs.Walk.{walk, Left, left, actBy, readInto}
-use Rattle.svg.specs.Stretch.{beforePoint, behindPoint, inWhole, inFraction, Grows, Onward, Digits}
-use Rattle.svg.proofs.Reading.{pick-yes, pick-no, symbol-digit, digit-bounds}
+use Rattle.svg.specs.Stretch.{hasDigit, hasPoint, beforePoint, behindPoint, inWhole, inFraction, Grows, Onward, Digits}
+use Rattle.svg.proofs.Reading.{pick-yes, pick-no, both, symbol-digit, digit-bounds}
 use Rattle.svg.proofs.Places.{no-false}
 use Rattle.svg.proofs.Sounds.{SoundStep, digit-small, moved-sound}
 use Rattle.svg.proofs.Walks.{unread, byte-digit}
@@ -75,6 +75,15 @@ module _ (text : List ℕ) (i : ℕ) (y : Symbol) (l : i < length text) (e : y �
       }
 
 -- ---- digits
+
+pub digit-told : (text : List ℕ) (i c : ℕ) → hasDigit text i c ≡ true → (i < length text) × (c < 9) × (digitByte (getD text i 0) ≡ true)
+digit-told text i c e =
+    let a = both (ltb i (length text)) _ e in
+    let b = both (ltb c 9) _ (a .1) in
+    (ltb-true i (length text) (a .0), ltb-true c 9 (b .0), b .1)
+
+pub point-told : (text : List ℕ) (i : ℕ) → hasPoint text i ≡ true → (i < length text) × (getD text i 0 ≡ 46)
+point-told text i e = let a = both (ltb i (length text)) _ e in (ltb-true i (length text) (a .0), eqb-true (getD text i 0) 46 (a .1))
 
 pub grows-whole : (k : Kind) (h : ℕ) (m : Num) → Grows (inWhole k h m)
 grows-whole k h m = record { quiet = λ n c d. refl; more = λ n c d i l. pick-yes _ _ _ (lt-ltb c 9 l) }

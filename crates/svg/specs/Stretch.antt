@@ -3,6 +3,7 @@ use mathlib.Core.Path.{_≡_}
 use mathlib.Core.Bool.{Bool, true, false}
 use mathlib.Core.List.{List}
 use Prim.Native.Nat.{ℕ, _+_, _*_, _^_, _≤_, _<_}
+use lib.Dec.{ltb, eqb}
 use lib.ListN.{length, drop, getD}
 use Rattle.pattern.specs.declared.pen.Pen.{Pen}
 use Rattle.svg.specs.declared.steps.Kind.{Kind}
@@ -14,9 +15,16 @@ use Rattle.svg.specs.declared.steps.State.{State}
 use Rattle.svg.specs.declared.steps.Step.the-variants.{Go}
 use Rattle.svg.specs.declared.hand.Hand.{Hand}
 use Rattle.svg.specs.declared.reader.Way.the-variants.{On}
-use Rattle.svg.specs.Language.{digitByte, symbols}
+use Rattle.svg.specs.Language.{pick, digitByte, symbols}
 use Rattle.svg.specs.Machine.{num, st, moved, ended, Sound}
 use Rattle.svg.specs.Walk.{walk, left, readInto}
+
+-- a digit stands there that is not the tenth of its side, and a point
+abbrev pub hasDigit : List ℕ → ℕ → ℕ → Bool
+hasDigit text i c = pick (ltb i (length text)) (pick (ltb c 9) (digitByte (getD text i 0)) false) false
+
+abbrev pub hasPoint : List ℕ → ℕ → Bool
+hasPoint text i = pick (ltb i (length text)) (eqb (getD text i 0) 46) false
 
 -- the places at which digits before the point may follow, and those behind it
 abbrev pub beforePoint : Place → Bool
@@ -60,7 +68,7 @@ pub record Onward (text : List ℕ) (s : State) (i : ℕ) (t : State) (j : ℕ) 
   pub sound : Sound t
   pub same : (h : Hand) (pen : Pen) (tags points : List ℕ) → readInto i (left (On (walk s h pen)) tags points) (symbols (drop i text)) ≡ readInto j (left (On (walk t h pen)) tags points) (symbols (drop j text))
 
--- the bytes from i up to j are digits, which take the number n and the count c to n' and c'
+-- reading digits from i on, with the number n and the count c, one may stand at j with n' and c': on either side of the point the text comes to the same from there; where j is behind i, a digit stands at i
 pub record Digits (text : List ℕ) (i n c j n' c' : ℕ) : Type 0 where
   pub on : i ≤ j
   pub within : j ≤ length text

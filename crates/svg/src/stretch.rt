@@ -6,10 +6,9 @@ use crate::steps::digit_byte;
 ghost use mathlib.Core.Path.{_≡_};
 ghost use mathlib.Core.Bool.{true};
 ghost use Prim.Native.Nat.{_+_, _^_, _≤_, _<_};
-ghost use lib.ListN.{length, getD};
-ghost use Rattle.svg.specs.Language.{digitByte};
+ghost use lib.ListN.{length};
 ghost use Rattle.svg.specs.Machine.{Sound};
-ghost use Rattle.svg.specs.Stretch.{beforePoint, behindPoint, Digits, Onward};
+ghost use Rattle.svg.specs.Stretch.{hasDigit, hasPoint, beforePoint, behindPoint, Digits, Onward};
 
 // Digits that were read: the number they make, how many there are on their side of the point, and the byte behind them.
 pub struct Taken {
@@ -26,7 +25,7 @@ pub struct Stand {
 
 // Whether a digit stands there that is no tenth.
 fn has_digit(text: &[u8], at: usize, count: u64) -> bool
-    ensures { λ r. ⌜ (r ≡ true → (at < length (now (text .entry))) × (count < 9) × (digitByte (getD (now (text .entry)) at 0) ≡ true)) ⌝ }
+    ensures { λ r. ⌜ r ≡ hasDigit (now (text .entry)) at count ⌝ }
 {
     if at < text.len() {
         if count < 9 {
@@ -86,7 +85,7 @@ fn behind_point(p: Place) -> bool
 }
 
 fn has_point(text: &[u8], at: usize) -> bool
-    ensures { λ r. ⌜ (r ≡ true → (at < length (now (text .entry))) × (getD (now (text .entry)) at 0 ≡ 46)) ⌝ }
+    ensures { λ r. ⌜ r ≡ hasPoint (now (text .entry)) at ⌝ }
 {
     if at < text.len() {
         return text[at] == 46;

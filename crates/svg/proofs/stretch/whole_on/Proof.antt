@@ -1,10 +1,10 @@
 -- `svg::stretch::whole_on` meets its contract. Assumes nothing.
-use mathlib.Core.Path.{refl}
+use mathlib.Core.Path.{refl, sym, _∙_}
 use Prim.Native.Nat.{_+_}
 use native.Mathlib.Omega.{arith}
 use borrow.Author.Needs.{needs}
 use Rattle.svg.proofs.Reading.{below-power}
-use Rattle.svg.proofs.Stretches.{onward-none, onward-then, whole-ran, whole-point}
+use Rattle.svg.proofs.Stretches.{point-told, onward-none, onward-then, whole-ran, whole-point}
 use Rattle.svg.proofs.stretch.whole_on.Statement.{statement}
 use Rattle.svg.proofs.stretch.whole_on.Tie as tie
 
@@ -18,14 +18,14 @@ digits-requires c κs =
 fraction-on-requires : tie.Need-fraction-on-requires
 fraction-on-requires c κs =
     let pre = c .before .before .before .before .before .pre in
-    let point = c .before .has-point .ensures (c .if1 .taken) in
+    let point = point-told (c .before .before .before .before .before .args .text .now) (c .before .before .digits .result .at) (sym (c .before .has-point .ensures) ∙ c .if1 .taken) in
     let a = whole-point (pre .0) (pre .2) (c .before .before .digits .ensures) (point .0) (point .1) in
     (a .sound, a .within, refl)
 
 returns : tie.Need-returns
 returns c =
     let pre = c .before .before .before .before .before .before .pre in
-    let point = c .before .before .has-point .ensures (c .before .if1 .taken) in
+    let point = point-told (c .before .before .before .before .before .before .args .text .now) (c .before .before .before .digits .result .at) (sym (c .before .before .has-point .ensures) ∙ c .before .if1 .taken) in
     onward-then (whole-point (pre .0) (pre .2) (c .before .before .before .digits .ensures) (point .0) (point .1)) (c .fraction-on .ensures)
 
 returns-2 : tie.Need-returns-2
