@@ -1,4 +1,5 @@
 // A check of a list of line records. See specs/Verdict.antt.
+#![tactic(auto)]
 ghost use Rattle.std.specs.Prelude.{◌≡◌};
 ghost use Rattle.records.specs.Record.{count, bad_at};
 ghost use Rattle.checker.specs.Verdict.{uneven_at, Answers, told_of};
@@ -7,7 +8,7 @@ ghost use Rattle.checker.specs.Search.{Stop};
 use records::{bad_at, count_both, key_at, word_at};
 
 // A record is told by its number, from 0.
-#[derive(Drop)]
+#[derive(Clone, Copy)]
 pub enum Verdict {
     Sound,
     BadNumber(usize),
@@ -17,7 +18,7 @@ pub enum Verdict {
 }
 
 // The verdict in numbers: 0 or the refusal's; then what is wrong, and in which record.
-#[derive(Drop)]
+#[derive(Clone, Copy)]
 pub struct Told {
     pub number: u32,
     pub verdict: u32,

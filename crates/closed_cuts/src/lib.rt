@@ -1,1 +1,2 @@
 // A closed outline is a closed cut: see specs/. No code.
+#![tactic(auto)]

@@ -24,7 +24,7 @@ const DIST_THRESH: f32 = 1e-3;
 const FRAC_1_SQRT_2: f32 = 0.707106781186547524400844362104849039;
 
 // A point of the cubic, the derivative there, and the parameter.
-#[derive(Drop)]
+#[derive(Clone, Copy)]
 pub struct Tip {
     pub p: Vec2,
     pub q: Vec2,
@@ -32,7 +32,7 @@ pub struct Tip {
 }
 
 // How the points of a range are spread along the offset curve: the numbers are a, b, integral, int0.
-#[derive(Drop)]
+#[derive(Clone, Copy)]
 pub enum EspcRobust {
     // k1 is low: as along a circular arc.
     LowK1,
@@ -43,7 +43,7 @@ pub enum EspcRobust {
 }
 
 // A range's spiral, the offset over its chord, how its points are spread, and the number of its lines.
-#[derive(Drop)]
+#[derive(Clone, Copy)]
 pub struct Fit {
     pub seg: EulerSeg,
     pub offset: f32,

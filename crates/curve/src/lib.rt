@@ -1,5 +1,6 @@
 // A cubic, or the curve at an offset from it, as lines: it is cut into ranges that are each near a spiral, and a range
 // is 1 to 100 lines.
+#![tactic(auto)]
 mod fit;
 mod straight;
 
@@ -19,7 +20,7 @@ use straight::{is_line, looks_straight};
 const SUBDIV_LIMIT: f32 = 1.0 / 65536.0;
 
 // One side of a curve: its control points, how much the transform scales, the transform of each line, and the given ends.
-#[derive(Drop)]
+#[derive(Clone, Copy)]
 struct Side {
     pub points: [Vec2; 4],
     pub scale: f32,

@@ -1,4 +1,5 @@
 // The whole way: from the text of a pattern to the knife table's file, in lent buffers.
+#![tactic(auto)]
 ghost use Rattle.std.specs.Prelude.{◌≡◌};
 ghost use Rattle.cut.specs.Stages.{stage_of, report_of};
 
@@ -6,7 +7,7 @@ pub mod sheet;
 pub mod way;
 
 // The stages of a call, in order.
-#[derive(Drop)]
+#[derive(Clone, Copy)]
 pub enum Stage {
     Text,
     Sheet,
@@ -16,7 +17,7 @@ pub enum Stage {
     Export,
 }
 
-#[derive(Drop)]
+#[derive(Clone, Copy)]
 pub enum Answer {
     // How many bytes the file has.
     Whole(usize),
@@ -25,7 +26,7 @@ pub enum Answer {
 }
 
 // An answer in numbers: 0 or the refusal's, its stage and place, and how many bytes the file has.
-#[derive(Drop)]
+#[derive(Clone, Copy)]
 pub struct Report {
     pub number: u32,
     pub stage: u32,

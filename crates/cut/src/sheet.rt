@@ -5,7 +5,7 @@ ghost use Rattle.cut.specs.Sheet.{tag_bytes, tag_word, tag_words, six_of, fill_s
 use flatten::call::Layout;
 
 // The words of a transform: a, b, c, d, e, f take (x, y) to (a*x + c*y + e, b*x + d*y + f).
-#[derive(Drop)]
+#[derive(Clone, Copy)]
 pub struct Six {
     pub a: u32,
     pub b: u32,
@@ -16,7 +16,7 @@ pub struct Six {
 }
 
 // Where the sheet stands; or how many words it takes, where so many are not lent. None is told of 2^31 or more.
-#[derive(Drop)]
+#[derive(Clone, Copy)]
 pub enum Laid {
     Sheet(Layout),
     NoRoom(usize),

@@ -5,7 +5,7 @@ ghost use Rattle.drawing.specs.Cubic.{cubic_point, cubic_deriv, cubic_at, first_
 use spiral::util::{ROBUST_EPSILON, Vec2};
 
 // A point, and the derivative there.
-#[derive(Drop)]
+#[derive(Clone, Copy)]
 pub struct CubicAt {
     pub p: Vec2,
     pub q: Vec2,

@@ -17,7 +17,7 @@ const JOIN_MITER: u32 = 0x1000_0000;
 const JOIN_ROUND: u32 = 0x2000_0000;
 
 // Where the two sides of the stroke end and start again.
-#[derive(Drop)]
+#[derive(Clone, Copy)]
 pub struct Corners {
     pub front0: Vec2,
     pub front1: Vec2,
@@ -26,7 +26,7 @@ pub struct Corners {
 }
 
 // How the stroke bends: the tangents before and after, their cross and dot products.
-#[derive(Drop)]
+#[derive(Clone, Copy)]
 pub struct Bend {
     pub tan_prev: Vec2,
     pub tan_next: Vec2,

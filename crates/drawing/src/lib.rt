@@ -1,4 +1,6 @@
 // What the source draws: lines, arcs, caps and joins, stored in the lent words.
+#![tactic(auto)]
+
 pub mod arc;
 pub mod cap;
 pub mod cubic;

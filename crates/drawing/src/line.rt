@@ -7,7 +7,7 @@ ghost use Rattle.drawing.specs.Page.{lesser_of, greater_of, empty_reach, reach_w
 use refusals::{LineEnd, Refusal};
 use spiral::util::{Vec2, apply};
 
-#[derive(Drop)]
+#[derive(Clone, Copy)]
 pub struct IntBbox {
     pub x0: i32,
     pub y0: i32,
@@ -16,7 +16,7 @@ pub struct IntBbox {
 }
 
 // How many lines are stored, the tag that draws, and the box of its lines.
-#[derive(Drop)]
+#[derive(Clone, Copy)]
 pub struct Pen {
     pub count: u32,
     pub tag: u32,
@@ -24,7 +24,7 @@ pub struct Pen {
 }
 
 // The answer so far. A stop says why, and how many whole lines are stored.
-#[derive(Drop)]
+#[derive(Clone, Copy)]
 pub enum Drawn {
     On(Pen),
     Stopped(Refusal, u32),
@@ -57,7 +57,7 @@ impl IntBbox {
 }
 
 // The box of points, by their coordinates as they are: floors and ceilings are taken once, of the whole.
-#[derive(Drop)]
+#[derive(Clone, Copy)]
 pub struct Reach {
     pub x0: f32,
     pub y0: f32,
@@ -66,7 +66,7 @@ pub struct Reach {
 }
 
 // The pen while lines are drawn.
-#[derive(Drop)]
+#[derive(Clone, Copy)]
 pub struct Nib {
     pub count: u32,
     pub tag: u32,
@@ -74,7 +74,7 @@ pub struct Nib {
 }
 
 // The answer while lines are drawn.
-#[derive(Drop)]
+#[derive(Clone, Copy)]
 pub enum Ink {
     Flows(Nib),
     Stops(Refusal, u32),

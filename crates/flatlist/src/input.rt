@@ -5,7 +5,7 @@ ghost use Rattle.std.specs.Prelude.{◌≡◌};
 ghost use Rattle.flatlist.specs.Form.{digit_of, words_from, bad_sheet, placed, judged, sheet_of, ended_of};
 
 // Where it is good: so many words, with zeros behind.
-#[derive(Drop)]
+#[derive(Clone, Copy)]
 pub struct Sheet {
     pub good: bool,
     pub count: usize,

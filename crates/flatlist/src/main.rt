@@ -1,5 +1,6 @@
 // Flattens the sheet on standard input and writes its lines and boxes. docs/FLATLIST.md has the form of
 // both.
+#![tactic(auto)]
 ghost use Rattle.std.specs.Prelude.{◌≤◌};
 
 mod input;

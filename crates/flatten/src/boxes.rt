@@ -7,7 +7,7 @@ use drawing::line::{IntBbox, higher, lower};
 
 // Laid out as C has it: lists of these are lent from outside.
 #[repr(C)]
-#[derive(Drop)]
+#[derive(Clone, Copy)]
 pub struct PathBox {
     pub x0: i32,
     pub y0: i32,
@@ -19,7 +19,7 @@ pub struct PathBox {
 
 // What one tag does to its path's box: store flags and transform index if `mark` says so, and merge
 // the box of what it drew.
-#[derive(Drop)]
+#[derive(Clone, Copy)]
 pub struct Change {
     pub mark: bool,
     pub draw_flags: u32,

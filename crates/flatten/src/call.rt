@@ -8,7 +8,7 @@ use drawing::line::IntBbox;
 use refusals::Refusal;
 
 // The workgroups, each of 256 tags, and where in the scene the parts begin.
-#[derive(Drop)]
+#[derive(Clone, Copy)]
 pub struct Layout {
     pub n_wg: u32,
     pub tag_base: u32,
@@ -18,7 +18,7 @@ pub struct Layout {
 }
 
 // Whether the call was refused before its last tag.
-#[derive(Drop)]
+#[derive(Clone, Copy)]
 pub enum Stop {
     Going,
     Refused(Refusal),
@@ -26,7 +26,7 @@ pub enum Stop {
 
 // Where the call stands: the tags left (none after a stop), the tag in turn, the lines stored, the
 // stop if any, and what the last tag does to which box.
-#[derive(Drop)]
+#[derive(Clone, Copy)]
 pub struct Turn {
     pub left: u64,
     pub tag: u64,
@@ -37,14 +37,14 @@ pub struct Turn {
 }
 
 // A refusal holds the tag in turn and the count of lines stored.
-#[derive(Drop)]
+#[derive(Clone, Copy)]
 pub enum Answer {
     Lines(u32),
     Refused(Refusal, u64, u32),
 }
 
 // An answer in numbers; with 5, `end` is 1 where a line's start is no number and 2 where only its end is none.
-#[derive(Drop)]
+#[derive(Clone, Copy)]
 pub struct Told {
     pub number: u32,
     pub end: u32,
@@ -158,7 +158,7 @@ pub fn flatten_main(
 }
 
 // What a call with boxes of its own answers.
-#[derive(Drop)]
+#[derive(Clone, Copy)]
 pub struct Owned {
     pub answer: Answer,
     pub boxes: [PathBox; 64],

@@ -10,25 +10,25 @@ use scene::words::Word;
 use segment::{Neighbor, Shape, neighbor_of};
 
 // A tag with its style's flags.
-#[derive(Drop)]
+#[derive(Clone, Copy)]
 pub struct Head {
     pub tag: PathTagData,
     pub flags: u32,
 }
 
-#[derive(Drop)]
+#[derive(Clone, Copy)]
 pub enum HeadRead {
     Found(Head),
     Refused(Refusal),
 }
 
-#[derive(Drop)]
+#[derive(Clone, Copy)]
 pub enum NeighborRead {
     Found(Neighbor),
     Refused(Refusal),
 }
 
-#[derive(Drop)]
+#[derive(Clone, Copy)]
 pub enum ShapeRead {
     Found(Shape),
     Refused(Refusal),

@@ -12,7 +12,7 @@ use records::word_at;
 
 // What an export answers, with the count of bytes that stand: the whole file; or the record in turn
 // where a coordinate is a NaN or out of range, or where a command has no room.
-#[derive(Drop)]
+#[derive(Clone, Copy)]
 pub enum Cut {
     Whole(usize),
     BadNumber(usize, usize),
@@ -20,14 +20,14 @@ pub enum Cut {
 }
 
 // Where the last line of the path ended, by its bits.
-#[derive(Drop)]
+#[derive(Clone, Copy)]
 pub(crate) enum Last {
     Nowhere,
     Ended(u32, u32),
 }
 
 // After a command or a line: the place behind it, or the count of bytes that stand.
-#[derive(Drop)]
+#[derive(Clone, Copy)]
 pub(crate) enum Put {
     On(usize),
     Bad(usize),
@@ -35,7 +35,7 @@ pub(crate) enum Put {
 }
 
 // The same with where the path's last line ended.
-#[derive(Drop)]
+#[derive(Clone, Copy)]
 pub(crate) enum Step {
     On(usize, Last),
     Bad(usize),

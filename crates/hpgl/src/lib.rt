@@ -1,4 +1,5 @@
 // HP-GL: the lines of one path as cuts for the knife table, and the reader of such files.
+#![tactic(auto)]
 pub mod export;
 pub mod looking;
 mod range;
@@ -7,21 +8,21 @@ mod rounding;
 mod text;
 
 // Which knife table: the old one takes -32767 to 32767, the new one -8388608 to 8388607.
-#[derive(Drop)]
+#[derive(Clone, Copy)]
 pub enum Table {
     Old,
     New,
 }
 
 // A point in plotter units.
-#[derive(Drop)]
+#[derive(Clone, Copy)]
 pub struct Point {
     pub x: i32,
     pub y: i32,
 }
 
 // An answer in numbers: 0 or the refusal's, how many bytes or lines stand, and the record or the position of a refusal.
-#[derive(Drop)]
+#[derive(Clone, Copy)]
 pub struct Report {
     pub number: u32,
     pub stands: usize,

@@ -11,7 +11,7 @@ use crate::{Point, Report, Table};
 
 // What a reading answers, with the count of lines that stand: the whole file; or the position of the
 // first byte that is not of the form, of a number out of range, of a PD whose line has no room.
-#[derive(Drop)]
+#[derive(Clone, Copy)]
 pub enum ReadBack {
     Whole(usize),
     Malformed(usize, usize),
@@ -20,7 +20,7 @@ pub enum ReadBack {
 }
 
 // What is read of a number: nothing, the sign, the digit 0, or a sign and a size, less 1.
-#[derive(Drop)]
+#[derive(Clone, Copy)]
 enum Num {
     None,
     Dashed,
@@ -29,7 +29,7 @@ enum Num {
 }
 
 // A byte of a number: it goes on, it ended before this byte, the byte is wrong, or it is out of range.
-#[derive(Drop)]
+#[derive(Clone, Copy)]
 enum NumStep {
     Goes(Num),
     Done(i32),
@@ -38,7 +38,7 @@ enum NumStep {
 }
 
 // Where the pen stands: nowhere yet, lifted to a point, or at the end of a line.
-#[derive(Drop)]
+#[derive(Clone, Copy)]
 enum Stand {
     Fresh,
     Lifted(Point),
@@ -132,7 +132,7 @@ fn num_step(ends: bool, n: Num, b: u8, table: Table) -> NumStep
 }
 
 // A number, up to the byte behind it: its value and that byte's position; the position of a wrong byte.
-#[derive(Drop)]
+#[derive(Clone, Copy)]
 enum Number {
     Whole(i32, usize),
     Wrong(usize),
@@ -160,7 +160,7 @@ fn read_number(file: &[u8], start: usize, ends: u8, table: Table) -> Number
 
 // Two numbers, up to the byte behind them: the point and that byte's position; the position of a wrong byte, or of a
 // number out of range.
-#[derive(Drop)]
+#[derive(Clone, Copy)]
 enum Place {
     At(Point, usize),
     Wrong(usize),
@@ -191,7 +191,7 @@ fn read_point(file: &[u8], start: usize, table: Table) -> Place
 
 // A command: the pen lifted to a point, or a line, with the position behind it; the position of a wrong byte, or of a
 // number out of range.
-#[derive(Drop)]
+#[derive(Clone, Copy)]
 enum Command {
     Up(Point, usize),
     Line(Point, Point, usize),

@@ -35,7 +35,7 @@ fn size_of(field: u32, digits: u32) -> u32
 }
 
 // A coordinate as a whole number: its sign and size, or that it is a NaN or out of the table's range.
-#[derive(Drop)]
+#[derive(Clone, Copy)]
 enum Rounded {
     Bad,
     To(bool, u32),
@@ -57,7 +57,7 @@ fn coordinate(word: u32, table: Table) -> Rounded
 }
 
 // The point of two words: the signs and sizes of x and y, or that one of them is refused.
-#[derive(Drop)]
+#[derive(Clone, Copy)]
 pub(crate) enum Aim {
     Bad,
     To(bool, u32, bool, u32),

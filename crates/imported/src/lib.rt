@@ -1,1 +1,2 @@
 // From path data to lines: what was imported is watertight: see specs/. No code.
+#![tactic(auto)]

@@ -1,5 +1,6 @@
 // What the programs that replay a list have in common: the list's words, the words lent to a call and
 // their hash, and the last line.
+#![tactic(auto)]
 ghost use Rattle.std.specs.Prelude.{◌≡◌, length, replicate};
 ghost use Rattle.lists.specs.Lists.{digit_of, word_at, mixed_of, hash_of};
 

@@ -1,4 +1,5 @@
 // Shows the mathematics at work: each line is a call and the bits of its answer.
+#![tactic(auto)]
 use libc::STDOUT_FILENO;
 
 fn show(call: &[u8], answer: f32) {

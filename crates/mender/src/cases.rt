@@ -9,7 +9,7 @@ use crate::near::near;
 use records::{Counts, count_both, key_at, word_at};
 
 // A path is mended by a line between two points, given by their keys.
-#[derive(Drop)]
+#[derive(Clone, Copy)]
 pub enum Case {
     Sound,
     Mended(u32, u32, u32, u32),
@@ -18,7 +18,7 @@ pub enum Case {
 
 // What is looked for among the records of a path: one with a point out of balance; one whose end is an end once more than a start;
 // one whose start is a start once more than an end; one with a point out of balance that is neither of two points.
-#[derive(Drop)]
+#[derive(Clone, Copy)]
 pub enum Sought {
     Uneven,
     OpenEnd,

@@ -10,7 +10,7 @@ use checker::{Verdict, check};
 use records::word_at;
 
 // Done and NoRoom name how many paths are reported and how many lines appended; BadNumber names the record, from 0.
-#[derive(Drop)]
+#[derive(Clone, Copy)]
 pub enum Outcome {
     Done(usize, usize),
     TooMany,
@@ -20,7 +20,7 @@ pub enum Outcome {
 }
 
 // The outcome in numbers: 0 or the refusal's, and the two that it names.
-#[derive(Drop)]
+#[derive(Clone, Copy)]
 pub struct Told {
     pub number: u32,
     pub first: usize,
@@ -62,7 +62,7 @@ impl Outcome {
 }
 
 // How many paths are reported, and how many lines appended.
-#[derive(Drop)]
+#[derive(Clone, Copy)]
 pub struct Plan {
     pub paths: usize,
     pub lines: usize,
@@ -134,7 +134,7 @@ fn put(words: &mut [u32], at: usize, path: u32, tag: u32, x: u32, y: u32, z: u32
 }
 
 // What is said of a path, behind its number.
-#[derive(Drop)]
+#[derive(Clone, Copy)]
 pub struct Entry {
     pub kind: u32,
     pub x: u32,

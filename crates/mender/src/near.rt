@@ -4,7 +4,7 @@ ghost use Rattle.mender.specs.Near.{steps, is_near};
 ghost use Rattle.mender.specs.Scaled.{value_of, half_of, low_of, carry_of};
 
 // The whole number digits * 2^shift, which may be far wider than a word.
-#[derive(Drop)]
+#[derive(Clone, Copy)]
 pub struct Scaled {
     pub digits: u32,
     pub shift: u32,

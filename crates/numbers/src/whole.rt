@@ -51,7 +51,7 @@ pub fn from_u32(k: u32) -> f32
 }
 
 // A whole number of the u32, and the float nearest to it.
-#[derive(Drop)]
+#[derive(Clone, Copy)]
 pub struct Part {
     pub count: u32,
     pub value: f32,

@@ -3,13 +3,13 @@ ghost use Rattle.std.specs.Prelude.{◌≡◌};
 ghost use Rattle.pattern.specs.Commands.{number_of};
 
 // A point: the words of its x and its y, each an f32.
-#[derive(Drop)]
+#[derive(Clone, Copy)]
 pub struct Spot {
     pub x: u32,
     pub y: u32,
 }
 
-#[derive(Drop)]
+#[derive(Clone, Copy)]
 pub enum Open {
     // No move since the start or the last end.
     Nothing,
@@ -20,7 +20,7 @@ pub enum Open {
 }
 
 // What is open, where it began and where it stands.
-#[derive(Drop)]
+#[derive(Clone, Copy)]
 pub struct Place {
     pub opened: Open,
     pub first: Spot,
@@ -28,14 +28,14 @@ pub struct Place {
 }
 
 // The place, and how many tag bytes and point words are written.
-#[derive(Drop)]
+#[derive(Clone, Copy)]
 pub struct Pen {
     pub place: Place,
     pub tags: u64,
     pub points: u64,
 }
 
-#[derive(Drop)]
+#[derive(Clone, Copy)]
 pub enum Answer {
     Accepted,
     // A line, quad or cubic with no move since the start or the last end.
@@ -47,7 +47,7 @@ pub enum Answer {
 }
 
 // A refused command gives the pen back as it was.
-#[derive(Drop)]
+#[derive(Clone, Copy)]
 pub struct Drew {
     pub answer: Answer,
     pub pen: Pen,

@@ -2,7 +2,7 @@
 ghost use Rattle.std.specs.Prelude.{◌≡◌};
 ghost use Rattle.profile.specs.Rules.{broken70, broken71, broken72, broken73, broken74, broken75, rule_of};
 
-#[derive(Drop)]
+#[derive(Clone, Copy)]
 pub enum Rule {
     // 70: a stroke style on a segment or a path tag.
     Stroke,
@@ -18,14 +18,14 @@ pub enum Rule {
     TooMany,
 }
 
-#[derive(Drop)]
+#[derive(Clone, Copy)]
 pub enum Fault {
     Fine,
     Breaks(Rule),
 }
 
 // What holds of a tag; from `wide` on, of its segment.
-#[derive(Drop)]
+#[derive(Clone, Copy)]
 pub struct Facts {
     pub segment: bool,
     pub path: bool,

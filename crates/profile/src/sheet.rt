@@ -18,7 +18,7 @@ use scene::reading::{read_path_segment, read_transform};
 use spiral::util::Vec2;
 
 // Refusals hold the tag.
-#[derive(Drop)]
+#[derive(Clone, Copy)]
 pub enum Verdict {
     // So many segments and subpaths.
     Passed(u64, u64),
@@ -29,7 +29,7 @@ pub enum Verdict {
 }
 
 // An answer in numbers.
-#[derive(Drop)]
+#[derive(Clone, Copy)]
 pub struct Told {
     pub number: u32,
     pub tag: u64,
@@ -37,7 +37,7 @@ pub struct Told {
     pub subpaths: u64,
 }
 
-#[derive(Drop)]
+#[derive(Clone, Copy)]
 pub(crate) enum Reads {
     // All tags were read, with so many segments.
     All(u64),

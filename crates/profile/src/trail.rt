@@ -12,7 +12,7 @@ use scene::reading::read_path_segment;
 use spiral::util::Vec2;
 
 // The six words of a segment's transform, and where it begins and ends.
-#[derive(Drop)]
+#[derive(Clone, Copy)]
 pub struct Piece {
     pub words: [u32; 6],
     pub first: Vec2,
@@ -21,7 +21,7 @@ pub struct Piece {
 
 // Behind some tags: their segments and finished subpaths; whether a subpath is unfinished, and where it
 // began; and the words of the first segment's transform.
-#[derive(Drop)]
+#[derive(Clone, Copy)]
 pub struct Trail {
     pub segments: u64,
     pub subpaths: u64,
@@ -31,7 +31,7 @@ pub struct Trail {
 }
 
 // What a tag breaks, and the trail behind it.
-#[derive(Drop)]
+#[derive(Clone, Copy)]
 pub struct Stepped {
     pub fault: Fault,
     pub trail: Trail,

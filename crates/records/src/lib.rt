@@ -1,4 +1,6 @@
 // The record of a line, of six words: what is read off its words. See specs/Record.antt.
+#![tactic(auto)]
+
 ghost use Rattle.std.specs.Prelude.{◌≡◌, ◌<◌};
 ghost use Rattle.records.specs.Record.{count, word, is_bad, bad_at, key, is_point, once, hit_at, counts_of};
 
@@ -91,7 +93,7 @@ fn end_is(list: &[u32], k: usize, path: u32, x: u32, y: u32) -> usize
 }
 
 // How often two points are starts and ends among the records of one path.
-#[derive(Drop)]
+#[derive(Clone, Copy)]
 pub struct Counts {
     pub starts0: usize,
     pub ends0: usize,

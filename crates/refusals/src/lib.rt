@@ -1,15 +1,16 @@
 // Why a call is refused, and the number of each refusal. No other place assigns numbers.
+#![tactic(auto)]
 ghost use Rattle.std.specs.Prelude.{◌≡◌};
 ghost use Rattle.refusals.specs.Refusals.{number_of, end_of};
 
 // An end of a line, as the line is written.
-#[derive(Drop)]
+#[derive(Clone, Copy)]
 pub enum LineEnd {
     Start,
     End,
 }
 
-#[derive(Drop)]
+#[derive(Clone, Copy)]
 pub enum Refusal {
     // The tag base or the data base lies past the scene's end.
     BadBase,

@@ -1,5 +1,6 @@
 // Replays the list on standard input, which docs/ORACLE.md describes. Here are the numbers and points of a line, and the
 // calls of `drawing` and `curve` by their numbers in the list.
+#![tactic(auto)]
 mod list;
 
 use curve::flatten_euler;

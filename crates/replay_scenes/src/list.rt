@@ -6,7 +6,7 @@ use crate::{CallTold, Head, ScanTold, boxes_of, patch, put_boxes, read_head, rea
 use flatten::call::{Told, flatten_owned};
 use scene::tags::{Scanned, scan};
 
-#[derive(Drop)]
+#[derive(Clone, Copy)]
 enum Replayed {
     Same,
     Differs,

@@ -1,5 +1,6 @@
 // Replays the scenes of the list on standard input, which docs/ORACLE.md describes. Here is what stands in the list: heads,
 // the words behind them, and boxes.
+#![tactic(auto)]
 ghost use Rattle.std.specs.Prelude.{◌≤◌};
 
 mod list;
@@ -10,7 +11,7 @@ use lists::word;
 
 // ---- the head of a scene: how much is given and lent, and what is told
 
-#[derive(Drop)]
+#[derive(Clone, Copy)]
 struct Head {
     layout: Layout,
     scene: usize,
@@ -22,7 +23,7 @@ struct Head {
     call: CallTold,
 }
 
-#[derive(Drop)]
+#[derive(Clone, Copy)]
 struct ScanTold {
     number: u32,
     count: u32,
@@ -30,7 +31,7 @@ struct ScanTold {
 }
 
 // The refusal's number is in the lowest byte of `stop`, the line's end in the next.
-#[derive(Drop)]
+#[derive(Clone, Copy)]
 struct CallTold {
     stop: u32,
     tag: u32,
@@ -90,7 +91,7 @@ fn read_head(line: &[u8; 162]) -> Head {
 // ---- the words behind a head: one with `*` behind it stands as often as the word after it says
 
 // A word of the list and the byte behind it.
-#[derive(Drop)]
+#[derive(Clone, Copy)]
 struct Piece {
     found: bool,
     word: u32,

@@ -1,5 +1,6 @@
 // Replays the list on standard input, which docs/ORACLE.md describes. Here are the calls of `spiral` by their numbers in
 // the list.
+#![tactic(auto)]
 mod list;
 
 use spiral::euler::{CubicParams, EulerParams, EulerSeg};
@@ -7,7 +8,7 @@ use spiral::util::Vec2;
 use spiral::{euler, util};
 
 // A call's answer: zeros behind its own numbers.
-#[derive(Drop)]
+#[derive(Clone, Copy)]
 struct Answer(f32, f32, f32, f32);
 
 fn number(x: f32) -> Answer {

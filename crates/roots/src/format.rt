@@ -6,7 +6,7 @@ ghost use Rattle.std.specs.Float.{binary32};
 ghost use Rattle.roots.specs.Parts.{Parted, Fielded, Scaled, packed};
 
 // A number m * 2 ^ t.
-#[derive(Drop)]
+#[derive(Clone, Copy)]
 pub(crate) struct Parts {
     pub(crate) m: u64,
     pub(crate) t: u64,
@@ -23,7 +23,7 @@ pub(crate) fn pattern(x: f32) -> u32
 }
 
 // A number m * 2 ^ t, with all 24 digits in m.
-#[derive(Drop)]
+#[derive(Clone, Copy)]
 pub(crate) struct Full {
     pub(crate) m: u32,
     pub(crate) t: u32,
@@ -78,7 +78,7 @@ pub(crate) fn fields(b: u32) -> Parts
 }
 
 // A root's whole part r and its remainder e: the number is r ^ k + e.
-#[derive(Drop)]
+#[derive(Clone, Copy)]
 pub(crate) struct Root {
     pub(crate) r: u64,
     pub(crate) e: u64,

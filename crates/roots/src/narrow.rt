@@ -3,7 +3,7 @@ ghost use Rattle.std.specs.Prelude.{◌≡◌, ◌+◌, ◌*◌, ◌^◌, ◌<�
 ghost use Rattle.roots.specs.Parts.{CubeNear, Cubed};
 
 // A square: its last 16 digits, and what stands before them.
-#[derive(Drop)]
+#[derive(Clone, Copy)]
 struct Halves {
     high: u32,
     low: u32,
@@ -68,7 +68,7 @@ pub(crate) fn square_times(m: u32, w: u32) -> u64
 
 // A cube root's whole part r, 3 r, 3 r² + 3 r, and the remainder e: the number is r³ + e. With these no step takes twelve or six times anything, of which a compiler
 // makes a wide product even where it is written in shifts and sums.
-#[derive(Drop)]
+#[derive(Clone, Copy)]
 struct Digits {
     r: u64,
     triple: u64,

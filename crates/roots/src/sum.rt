@@ -85,7 +85,7 @@ pub(crate) fn hypot_near(x: f32, y: f32) -> u32
 }
 
 // Two patterns, the larger first.
-#[derive(Drop)]
+#[derive(Clone, Copy)]
 pub(crate) struct Pair {
     pub(crate) a: u32,
     pub(crate) b: u32,

@@ -9,14 +9,14 @@ use crate::words::{Word, word_at};
 use spiral::util::Vec2;
 
 // The control points of a segment. Where a point lies outside, refusal 2, all four are (0, 0).
-#[derive(Drop)]
+#[derive(Clone, Copy)]
 pub struct SegmentRead {
     pub found: bool,
     pub points: [Vec2; 4],
 }
 
 // The six numbers of a transform. Where one lies outside, refusal 2, all six are 0.
-#[derive(Drop)]
+#[derive(Clone, Copy)]
 pub struct TransformRead {
     pub found: bool,
     pub z: [f32; 6],

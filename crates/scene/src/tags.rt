@@ -8,7 +8,7 @@ use crate::words::{Word, word_at};
 use refusals::Refusal;
 
 // What tags add up to, each sum modulo 2^32.
-#[derive(Drop)]
+#[derive(Clone, Copy)]
 pub struct PathMonoid {
     pub trans_ix: u32,
     pub pathseg_offset: u32,
@@ -16,26 +16,26 @@ pub struct PathMonoid {
     pub path_ix: u32,
 }
 
-#[derive(Drop)]
+#[derive(Clone, Copy)]
 pub struct PathTagData {
     pub tag_byte: u8,
     pub monoid: PathMonoid,
 }
 
-#[derive(Drop)]
+#[derive(Clone, Copy)]
 pub enum TagRead {
     Tag(PathTagData),
     // The tag's word lies outside the scene, or its prefix is not lent.
     Refused(Refusal),
 }
 
-#[derive(Drop)]
+#[derive(Clone, Copy)]
 enum Prefix {
     Lent(PathMonoid),
     Missing,
 }
 
-#[derive(Drop)]
+#[derive(Clone, Copy)]
 pub enum Scanned {
     // So many prefixes.
     Filled(u64),

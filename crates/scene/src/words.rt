@@ -3,7 +3,7 @@ ghost use Rattle.std.specs.Prelude.{◌≡◌};
 ghost use Rattle.refusals.specs.Refusals.{told};
 ghost use Rattle.scene.specs.Words.{word_read, word_at};
 
-#[derive(Drop)]
+#[derive(Clone, Copy)]
 pub enum Word {
     At(u32),
     // The place lies behind the last word: refusal 2.

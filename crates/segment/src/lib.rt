@@ -1,4 +1,5 @@
 // What a segment draws: a fill, a stroke, or the cap where a stroke starts.
+#![tactic(auto)]
 ghost use Rattle.std.specs.Prelude.{◌≡◌};
 ghost use Rattle.drawing.specs.Page.{Drew};
 ghost use Rattle.segment.specs.Segment.{quarter, steady_of, neighbor_of, tangents_of, edges_of, sides_events, end_events, stroke_events, start_cap_events, fill_events, shape_events};
@@ -16,14 +17,14 @@ const START_CAP_MASK: u32 = 0x0c00_0000;
 const END_CAP_MASK: u32 = 0x0300_0000;
 
 // The segment after a stroked one: whether the two are joined, and its tangent.
-#[derive(Drop)]
+#[derive(Clone, Copy)]
 pub struct Neighbor {
     pub do_join: bool,
     pub tangent: Vec2,
 }
 
 // What is drawn of a segment. A stroke has its line width.
-#[derive(Drop)]
+#[derive(Clone, Copy)]
 pub enum Shape {
     Nothing,
     Fill,
@@ -32,7 +33,7 @@ pub enum Shape {
 }
 
 // The tangents where a segment starts, where it ends, and where the next one starts.
-#[derive(Drop)]
+#[derive(Clone, Copy)]
 pub struct Tangents {
     pub start: Vec2,
     pub prev: Vec2,
@@ -40,7 +41,7 @@ pub struct Tangents {
 }
 
 // The tangent at the end and the normals, as long as the offset.
-#[derive(Drop)]
+#[derive(Clone, Copy)]
 pub struct Edges {
     pub offset_tangent: Vec2,
     pub n_start: Vec2,

@@ -21,7 +21,7 @@ const FRAC_PI_4: f32 = 0.785398163397448309615660845819875721;
 
 // What is read off a cubic to fit a spiral: the tangents' angles against the chord, the chord's
 // length, and the estimated distance of the two curves.
-#[derive(Drop)]
+#[derive(Clone, Copy)]
 pub struct CubicParams {
     pub th0: f32,
     pub th1: f32,
@@ -30,7 +30,7 @@ pub struct CubicParams {
 }
 
 // The fitted spiral, over a chord from (0, 0) to (1, 0).
-#[derive(Drop)]
+#[derive(Clone, Copy)]
 pub struct EulerParams {
     pub th0: f32,
     pub k0: f32,
@@ -39,7 +39,7 @@ pub struct EulerParams {
 }
 
 // The spiral, and the ends of its chord.
-#[derive(Drop)]
+#[derive(Clone, Copy)]
 pub struct EulerSeg {
     pub p0: Vec2,
     pub p1: Vec2,
@@ -47,7 +47,7 @@ pub struct EulerSeg {
 }
 
 // The integral of a spiral: along its middle tangent, and across.
-#[derive(Drop)]
+#[derive(Clone, Copy)]
 struct Integral {
     u: f32,
     v: f32,

@@ -5,7 +5,7 @@ ghost use Rattle.spiral.specs.Util.{add_of, sub_of, mul_of, div_of, neg_of, new_
 // An epsilon of the source for numerical robustness.
 pub const ROBUST_EPSILON: f32 = 2e-7;
 
-#[derive(Drop)]
+#[derive(Clone, Copy)]
 pub struct Vec2 {
     pub x: f32,
     pub y: f32,

@@ -9,7 +9,7 @@ use pattern::commands::{cubic_to, line_to, move_to, quad_to};
 use pattern::pen::{Drew, Pen, Spot};
 
 // The last six numbers, as the words of their f32.
-#[derive(Drop)]
+#[derive(Clone, Copy)]
 pub struct Six {
     pub a: u32,
     pub b: u32,
@@ -21,7 +21,7 @@ pub struct Six {
 
 // What the next command is made of: its kind, how many of its numbers are read, these numbers, the first point of the
 // subpath, and whether it stands behind Z.
-#[derive(Drop)]
+#[derive(Clone, Copy)]
 pub struct Hand {
     pub kind: Kind,
     pub have: u64,

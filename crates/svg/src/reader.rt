@@ -16,7 +16,7 @@ use pattern::commands::end;
 use pattern::pen::{Drew, Pen, Spot};
 
 // How a text ended.
-#[derive(Drop)]
+#[derive(Clone, Copy)]
 pub enum Ending {
     Accepted,
     // The language's refusal and its byte.
@@ -25,28 +25,28 @@ pub enum Ending {
     Undrawn(u32, usize),
 }
 
-#[derive(Drop)]
+#[derive(Clone, Copy)]
 pub struct Done {
     pub ending: Ending,
     pub pen: Pen,
 }
 
 // The number of an answer, and the byte of a refusal.
-#[derive(Drop)]
+#[derive(Clone, Copy)]
 pub struct Report {
     pub number: u32,
     pub at: usize,
 }
 
 // The reader on its way.
-#[derive(Drop)]
+#[derive(Clone, Copy)]
 pub struct Walk {
     pub state: State,
     pub hand: Hand,
     pub pen: Pen,
 }
 
-#[derive(Drop)]
+#[derive(Clone, Copy)]
 pub enum Way {
     On(Walk),
     Over(Done),

@@ -9,7 +9,7 @@ ghost use Rattle.svg.specs.Machine.{number_of, Held, digit_of, whole_digit, frac
 use crate::decimal::decimal;
 
 // The letters that numbers follow.
-#[derive(Drop)]
+#[derive(Clone, Copy)]
 pub enum Kind {
     Move,
     Line,
@@ -18,7 +18,7 @@ pub enum Kind {
 }
 
 // What a byte is to the language.
-#[derive(Drop)]
+#[derive(Clone, Copy)]
 pub enum Symbol {
     White,
     Comma,
@@ -32,7 +32,7 @@ pub enum Symbol {
 
 // The places of the grammar: before the first command; behind a letter; behind a sign; in the digits before the point; behind the point; in the digits
 // behind it; behind a number; behind a comma; behind Z.
-#[derive(Drop)]
+#[derive(Clone, Copy)]
 pub enum Place {
     AtStart,
     AtLetter,
@@ -46,7 +46,7 @@ pub enum Place {
 }
 
 // The number that is being read: its sign, its digits as a whole number, how many stand before and behind the point, and its first byte.
-#[derive(Drop)]
+#[derive(Clone, Copy)]
 pub struct Num {
     pub negative: bool,
     pub n: u64,
@@ -56,7 +56,7 @@ pub struct Num {
 }
 
 // Where the reader stands: in a command of that kind, of whose next group so many numbers are read.
-#[derive(Drop)]
+#[derive(Clone, Copy)]
 pub struct State {
     pub place: Place,
     pub kind: Kind,
@@ -65,7 +65,7 @@ pub struct State {
 }
 
 // What is wrong with a text.
-#[derive(Drop)]
+#[derive(Clone, Copy)]
 pub enum Fault {
     // No text of the language goes on so.
     NotInLanguage,
@@ -85,7 +85,7 @@ impl Fault {
 }
 
 // What a byte does: the state behind it, and the item that it finishes; or the refusal and its byte.
-#[derive(Drop)]
+#[derive(Clone, Copy)]
 pub enum Step {
     Go(State),
     Lettered(State),
@@ -94,7 +94,7 @@ pub enum Step {
 }
 
 // How a text ends.
-#[derive(Drop)]
+#[derive(Clone, Copy)]
 pub enum Verdict {
     Accepted,
     Refused(Fault, usize),

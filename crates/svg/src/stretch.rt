@@ -6,7 +6,7 @@ ghost use Rattle.svg.specs.Stretch.{has_digit, has_point, before_point, behind_p
 use crate::steps::{Num, Place, State, digit_byte};
 
 // Digits that were read: the number they make, how many there are on their side of the point, and the byte behind them.
-#[derive(Drop)]
+#[derive(Clone, Copy)]
 pub struct Taken {
     pub n: u64,
     pub count: u64,
@@ -14,7 +14,7 @@ pub struct Taken {
 }
 
 // Where the reader stands, and its next byte.
-#[derive(Drop)]
+#[derive(Clone, Copy)]
 pub struct Stand {
     pub state: State,
     pub at: usize,

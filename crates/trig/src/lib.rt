@@ -1,4 +1,5 @@
 // sin, cos, atan2, asin and acos of f32: fixed sequences of operations, each rounded once, as specs/Trig.antt gives them.
+#![tactic(auto)]
 ghost use Rattle.std.specs.Prelude.{◌≡◌, cond, ◌+◌, ◌-◌, ◌*◌, ◌/◌, ◌%◌, ◌^◌, ◌≤◌};
 ghost use Rattle.std.specs.Float.{nan};
 ghost use Rattle.std.specs.Float.Ieee.{lt};
@@ -27,7 +28,7 @@ fn bounded(lo: f32, hi: f32, v: f32) -> f32
 }
 
 // An angle: so many quarter turns, and a rest.
-#[derive(Drop)]
+#[derive(Clone, Copy)]
 struct Turn {
     quarters: u32,
     rest: f32,

@@ -1,0 +1,31 @@
+-- `numbers::whole::near` meets its contract. Assumes nothing.
+use Rattle.std.proofs.Common.{Bool, sym, ap, ◌∙◌}
+use lib.Ieee.{of_bits}
+use Rattle.numbers.specs.Whole.{whole_of}
+use Rattle.numbers.proofs.Bits.{yes, no}
+use Rattle.numbers.proofs.Wholes.{raised, high_enough, lowered, low_enough}
+use Rattle.numbers.proofs.whole.near.Goals as goal
+
+pub returns-then-n-a : goal.returns-then-n-a
+unfolding of_bits
+returns-then-n-a c =
+    let a = c.args.a in
+    raised a c.requires.0 c.requires.1 (yes c.if-n-a.true) ∙ ap (λ (u : Bool). whole_of u a) (sym c.if-up.true)
+
+pub returns-then-up : goal.returns-then-up
+unfolding of_bits
+returns-then-up c =
+    let a = c.args.a in
+    high_enough a c.requires.0 c.requires.1 (no c.if-n-a.false) ∙ ap (λ (u : Bool). whole_of u a) (sym c.if-up.true)
+
+pub returns-then-a-n : goal.returns-then-a-n
+unfolding of_bits
+returns-then-a-n c =
+    let a = c.args.a in
+    lowered a c.requires.0 c.requires.1 (yes c.if-a-n.true) ∙ ap (λ (u : Bool). whole_of u a) (sym c.if-up.false)
+
+pub returns : goal.returns
+unfolding of_bits
+returns c =
+    let a = c.args.a in
+    low_enough a c.requires.0 c.requires.1 (no c.if-a-n.false) ∙ ap (λ (u : Bool). whole_of u a) (sym c.if-up.false)

@@ -1,0 +1,26 @@
+-- `numbers::whole::span` meets its contract. Assumes nothing.
+use Rattle.std.proofs.Common.{sym, ap, ◌∙◌, rules}
+use lib.Ieee.{of_bits, neg}
+use Rattle.numbers.specs.Words.{signed}
+use Rattle.numbers.specs.Whole.{span_of}
+use Rattle.numbers.proofs.Bits.{yes, positive}
+use Rattle.numbers.proofs.Spans.{ended, minus, negated}
+use Rattle.numbers.proofs.whole.span.Goals as goal
+
+pub between-requires : goal.between-requires
+unfolding of_bits
+between-requires c = (positive c.args.x (yes c.if-x.true), yes c.if-x-2.true)
+
+pub returns-then-x-2 : goal.returns-then-x-2
+unfolding signed
+returns-then-x-2 c = c.between.ensures
+
+pub between-requires-then-x-4 : goal.between-requires-then-x-4
+unfolding of_bits neg
+between-requires-then-x-4 c = minus c.args.x (yes c.if-x-3.true) (yes c.if-x-4.true)
+
+pub returns-then-x-4 : goal.returns-then-x-4
+returns-then-x-4 c = c.between-then-x-4.ensures ∙ ap span_of (sym (negated c.args.x))
+
+pub returns : goal.returns
+returns c = ended c.args.x c.floor_i32.type-inv c.ceil_i32.type-inv c.floor_i32.ensures c.ceil_i32.ensures

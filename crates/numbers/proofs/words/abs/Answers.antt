@@ -1,0 +1,13 @@
+-- `numbers::words::abs` meets its contract. Assumes nothing.
+use Rattle.std.proofs.Common.{T, sym, subst}
+use lib.Ieee.{of_bits}
+use Rattle.numbers.proofs.Bits.{yes, no, size_above, size_below}
+use Rattle.numbers.proofs.words.abs.Goals as goal
+
+pub returns-then-x : goal.returns-then-x
+unfolding of_bits
+returns-then-x c = size_above c.args.x (yes c.if-x.true)
+
+pub returns : goal.returns
+unfolding of_bits
+returns c = size_below c.args.x (subst T (sym c.well-formed.0.1) tt) (no c.if-x.false)

@@ -1,0 +1,6 @@
+-- `records::start_is` meets its contract. Assumes nothing.
+use borrow.Author.Rules.{rules}
+use Rattle.records.proofs.start_is.Goals as goal
+
+pub returns : goal.returns
+returns c = rw (c.one.ensures, c.is_point.ensures, c.word_in-b.ensures, c.word_in-a.ensures, c.word_in-q.ensures)

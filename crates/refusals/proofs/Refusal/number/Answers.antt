@@ -1,0 +1,40 @@
+-- `refusals::Refusal::number` meets its contract. Assumes nothing.
+use borrow.Author.Rules.{rules}
+use Rattle.refusals.specs.Refusals.{number_of}
+use Rattle.refusals.proofs.Refusal.number.Goals as goal
+
+pub returns-in-BadBase : goal.returns-in-BadBase
+unfolding number_of
+returns-in-BadBase c = rw c.enum_told-1.given.1
+
+pub returns-in-Outside : goal.returns-in-Outside
+unfolding number_of
+returns-in-Outside c = rw c.enum_told-in-Outside-1.given.1
+
+pub returns-in-NoPrefix : goal.returns-in-NoPrefix
+unfolding number_of
+returns-in-NoPrefix c = rw c.enum_told-in-NoPrefix-1.given.1
+
+pub returns-in-NoBox : goal.returns-in-NoBox
+unfolding number_of
+returns-in-NoBox c = rw c.enum_told-in-NoBox-1.given.1
+
+pub returns-in-NotNumber : goal.returns-in-NotNumber
+unfolding number_of
+returns-in-NotNumber c = rw c.enum_told-in-NotNumber-1.given.1
+
+pub returns-in-NoRoom : goal.returns-in-NoRoom
+unfolding number_of
+returns-in-NoRoom c = rw c.enum_told-in-NoRoom-1.given.1
+
+pub returns-in-NoJoin : goal.returns-in-NoJoin
+unfolding number_of
+returns-in-NoJoin c = rw c.enum_told-in-NoJoin-1.given.1
+
+pub returns-in-NoCount : goal.returns-in-NoCount
+unfolding number_of
+returns-in-NoCount c = rw c.enum_told-in-NoCount-1.given.1
+
+pub returns-in-BadTransform : goal.returns-in-BadTransform
+unfolding number_of
+returns-in-BadTransform c = rw c.enum_told-in-BadTransform-1.given.1

@@ -1,0 +1,25 @@
+-- `roots::sum::hypot_bits` meets its contract: the root of zero is zero. Assumes nothing.
+use Rattle.std.proofs.Common.{◌≡◌, ℕ, ◌+◌, ◌*◌, ◌≤◌, true, false, sym, refl, subst, arith, lit≤, rules}
+use lib.Ieee.{of_bits}
+use Rattle.roots.specs.Root.{nearest_root}
+use Rattle.roots.specs.Parts.{mag_bits, root_bits}
+use Rattle.roots.proofs.sum.hypot_bits.Goals as goal
+
+zeros : root_bits 2 (mag_bits 0 * mag_bits 0 + mag_bits 0 * mag_bits 0) 0
+unfolding of_bits nearest_root
+zeros = record {
+  number = lit≤ tt;
+  right = λ s. elim s [
+    | true ↦ refl
+    | false ↦ refl
+  ];
+}
+
+of_zeros : (a b : ℕ) → a ≡ 0 → b ≤ a → root_bits 2 (mag_bits a * mag_bits a + mag_bits b * mag_bits b) 0
+of_zeros a b p h =
+    let q : b ≡ 0 = omega arith in
+    subst (λ (x : ℕ). root_bits 2 (mag_bits x * mag_bits x + mag_bits b * mag_bits b) 0) (sym p)
+    (subst (λ (y : ℕ). root_bits 2 (mag_bits 0 * mag_bits 0 + mag_bits y * mag_bits y) 0) (sym q) zeros)
+
+pub returns-then-a-eq0 : goal.returns-then-a-eq0
+returns-then-a-eq0 c = of_zeros _ _ c.if-a-eq0.true c.requires.0
