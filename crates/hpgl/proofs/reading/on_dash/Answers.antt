@@ -1,0 +1,6 @@
+-- `hpgl::reading::on_dash` meets its contract. Assumes nothing.
+use borrow.Author.Rules.{rules}
+use Rattle.hpgl.proofs.reading.on_dash.Goals as goal
+
+pub returns-in-None : goal.returns-in-None
+returns-in-None c = rw c.in-None.is
