@@ -18,12 +18,26 @@ swap : (a b c d : Bool) → Ordered a b c d → Ordered b a d c
 swap true false false false less = more
 swap false true false false more = less
 swap false false true true alike = alike
+swap false false false d never = elim never [ ]
+swap false false true false never = elim never [ ]
+swap false true false true never = elim never [ ]
+swap false true true d never = elim never [ ]
+swap true false false true never = elim never [ ]
+swap true false true d never = elim never [ ]
+swap true true c d never = elim never [ ]
 
 -- among negatives, the larger size is below
 turn : (a b c d : Bool) → Ordered a b c d → Ordered b a c d
 turn true false false false less = more
 turn false true false false more = less
 turn false false true true alike = alike
+turn false false false d never = elim never [ ]
+turn false false true false never = elim never [ ]
+turn false true false true never = elim never [ ]
+turn false true true d never = elim never [ ]
+turn true false false true never = elim never [ ]
+turn true false true d never = elim never [ ]
+turn true true c d never = elim never [ ]
 
 sizes : (a b : ℕ) → Ordered (nat_lt a b) (nat_lt b a) (a == b && true) (b == a && true)
 sizes a b = go (either (nat_lt a b)) (either (nat_lt b a))
@@ -78,6 +92,8 @@ le_self x h = go (lt x x) (eq x x) (ordered x x h h)
   where
     go : (a c : Bool) → Ordered a a c c → T (a || c)
     go false true alike = tt
+    go false false never = elim never [ ]
+    go true c never = elim never [ ]
 
 pub not_lt→le : (x y : Float) → T (not (is_nan x)) → T (not (is_nan y)) → T (not (lt x y)) → T (le y x)
 unfolding le
@@ -87,6 +103,13 @@ not_lt→le x y h k n = go (lt x y) (lt y x) (eq x y) (eq y x) (ordered x y h k)
     go true false false false less n = absurd n
     go false true false false more n = tt
     go false false true true alike n = tt
+    go false false false d never n = elim never [ ]
+    go false false true false never n = elim never [ ]
+    go false true false true never n = elim never [ ]
+    go false true true d never n = elim never [ ]
+    go true false false true never n = elim never [ ]
+    go true false true d never n = elim never [ ]
+    go true true c d never n = elim never [ ]
 
 pub lt_once : (x y : Float) → T (not (is_nan x)) → T (not (is_nan y)) → lt x y ≡ true → lt y x ≡ false
 lt_once x y h k e = go (lt x y) (lt y x) (eq x y) (eq y x) (ordered x y h k) e
@@ -95,6 +118,13 @@ lt_once x y h k e = go (lt x y) (lt y x) (eq x y) (eq y x) (ordered x y h k) e
     go true false false false less e = refl
     go false true false false more e = sym e
     go false false true true alike e = refl
+    go false false false d never e = elim never [ ]
+    go false false true false never e = elim never [ ]
+    go false true false true never e = elim never [ ]
+    go false true true d never e = elim never [ ]
+    go true false false true never e = elim never [ ]
+    go true false true d never e = elim never [ ]
+    go true true c d never e = elim never [ ]
 
 -- ---- equal and of one sign
 zeros : (f : Format) (x y : Float) → T (fits f x) → T (fits f y) → T (is_zero x) → T (is_zero y) → sign_of x ≡ sign_of y → x ≡ y

@@ -61,6 +61,13 @@ or_else false false true true x y alike h = go (sign_of x) (sign_of y) (h tt)
     go true false h = inl refl
     go false true h = inl refl
     go false false h = inr (h refl)
+or_else false false false d x y never h = elim never [ ]
+or_else false false true false x y never h = elim never [ ]
+or_else false true false true x y never h = elim never [ ]
+or_else false true true d x y never h = elim never [ ]
+or_else true false false true x y never h = elim never [ ]
+or_else true false true d x y never h = elim never [ ]
+or_else true true c d x y never h = elim never [ ]
 
 one_first : (x y : Float) → T (fits binary32 x) → T (fits binary32 y) → T (not (is_nan x)) → T (not (is_nan y)) → (before y x ≡ not (before x y)) ⊎ (x ≡ y)
 unfolding before

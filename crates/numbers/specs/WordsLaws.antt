@@ -11,6 +11,7 @@ use Rattle.numbers.specs.Words.{sign_of, signed, abs_of, half_units, half_fields
 -- ---- only a NaN differs from itself
 both : (a : Bool) → T a → not (a && true) ≡ false
 both true t = refl
+both false t = elim t [ ]
 
 pub nan_test : (x : Float) → ne x x ≡ is_nan x
 unfolding ne is_nan

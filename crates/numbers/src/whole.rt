@@ -10,8 +10,8 @@ use crate::words;
 // a, of clear sign and below 2^23, as a whole number: rounded up or down. The floats from 2^23 to 2^24 are the whole numbers
 // there, so the sum leaves no fraction, and n is less than 1 away from a.
 fn near(up: bool, a: f32) -> f32
-    requires fact_1 { T (not (sign_of a)) }
-    requires fact_2 { T (lt a (fin false 1 (pos 23))) }
+    requires unsigned { T (not (sign_of a)) }
+    requires small { T (lt a (fin false 1 (pos 23))) }
     ensures { result ≡ whole_of up a }
 {
     let n = a + 8388608.0 - 8388608.0;
@@ -184,8 +184,8 @@ pub fn ceil_i32(x: f32) -> i32
 
 // The floor and the ceiling of a, or of -a where s is true, as i32: the whole numbers next to a, with the sign.
 fn between(s: bool, a: f32) -> [i32; 2]
-    requires fact_1 { T (not (sign_of a)) }
-    requires fact_2 { T (lt a (fin false 1 (pos 23))) }
+    requires unsigned { T (not (sign_of a)) }
+    requires small { T (lt a (fin false 1 (pos 23))) }
     ensures { result ≡ span_of (signed s a) }
 {
     let f = near(false, a);

@@ -33,6 +33,7 @@ pub enum Refusal {
 }
 
 impl Refusal {
+    #[tactic(auto, unfolding(crate::specs::Refusals::number_of))]
     pub fn number(self) -> u32
         ensures { result ≡ number_of self }
     {
@@ -50,6 +51,7 @@ impl Refusal {
     }
 
     // Of number 5, the line's end that is no number: 1 the start, 2 the end. 0 of any other.
+    #[tactic(auto, unfolding(crate::specs::Refusals::end_of))]
     pub fn end(self) -> u32
         ensures { result ≡ end_of self }
     {

@@ -7,36 +7,36 @@ use Rattle.numbers.proofs.whole.between.Goals as goal
 
 pub float_to_int-k : goal.float_to_int-k
 float_to_int-k c =
-    (both c.args.s c.args.a c.near-f.result (subst T (sym c.well-formed.1.0.1) tt) c.requires.0 c.requires.1 c.near-f.ensures).whole
+    (both c.args.s c.args.a c.near-f.result (subst T (sym c.well_formed.1.0.1) tt) c.requires.unsigned c.requires.small c.near-f.ensures).whole
 
 pub next-m-requires : goal.next-m-requires
 next-m-requires c =
-    (both c.args.s c.args.a c.near-f.result (subst T (sym c.well-formed.1.0.1) tt) c.requires.0 c.requires.1 c.near-f.ensures).low
+    (both c.args.s c.args.a c.near-f.result (subst T (sym c.well_formed.1.0.1) tt) c.requires.unsigned c.requires.small c.near-f.ensures).low
 
 pub with_sign-requires : goal.with_sign-requires
 with_sign-requires c =
-    le_trans (le_of_eq c.next-m.ensures) (both c.args.s c.args.a c.near-f.result (subst T (sym c.well-formed.1.0.1) tt) c.requires.0 c.requires.1 c.near-f.ensures).next
+    le_trans (le_of_eq c.next-m.ensures) (both c.args.s c.args.a c.near-f.result (subst T (sym c.well_formed.1.0.1) tt) c.requires.unsigned c.requires.small c.near-f.ensures).next
 
 pub with_sign-requires-then-s : goal.with_sign-requires-then-s
 with_sign-requires-then-s c =
-    (both c.args.s c.args.a c.near-f.result (subst T (sym c.well-formed.1.0.1) tt) c.requires.0 c.requires.1 c.near-f.ensures).small
+    (both c.args.s c.args.a c.near-f.result (subst T (sym c.well_formed.1.0.1) tt) c.requires.unsigned c.requires.small c.near-f.ensures).small
 
 pub returns-then-s : goal.returns-then-s
 returns-then-s c =
-    let B = both true c.args.a c.near-f.result (subst T (sym c.well-formed.1.0.1) tt) c.requires.0 c.requires.1 c.near-f.ensures in
-    ended (signed true c.args.a) c.with_sign.type-inv c.with_sign-then-s.type-inv (c.with_sign.ensures ∙ ap (λ (k : ℕ). neg_ℤ (pos k)) c.next-m.ensures ∙ B.floor) (c.with_sign-then-s.ensures ∙ B.ceil)
+    let B = both true c.args.a c.near-f.result (subst T (sym c.well_formed.1.0.1) tt) c.requires.unsigned c.requires.small c.near-f.ensures in
+    ended (signed true c.args.a) c.with_sign.type_inv c.with_sign-then-s.type_inv (c.with_sign.ensures ∙ ap (λ (k : ℕ). neg_ℤ (pos k)) c.next-m.ensures ∙ B.floor) (c.with_sign-then-s.ensures ∙ B.ceil)
     ∙ ap (λ (s : Bool). span_of (signed s c.args.a)) (sym c.if-s.true)
 
 pub with_sign-requires-2 : goal.with_sign-requires-2
 with_sign-requires-2 c =
-    (both c.args.s c.args.a c.near-f.result (subst T (sym c.well-formed.1.0.1) tt) c.requires.0 c.requires.1 c.near-f.ensures).small
+    (both c.args.s c.args.a c.near-f.result (subst T (sym c.well_formed.1.0.1) tt) c.requires.unsigned c.requires.small c.near-f.ensures).small
 
 pub with_sign-requires-3 : goal.with_sign-requires-3
 with_sign-requires-3 c =
-    le_trans (le_of_eq c.next-m.ensures) (both c.args.s c.args.a c.near-f.result (subst T (sym c.well-formed.1.0.1) tt) c.requires.0 c.requires.1 c.near-f.ensures).next
+    le_trans (le_of_eq c.next-m.ensures) (both c.args.s c.args.a c.near-f.result (subst T (sym c.well_formed.1.0.1) tt) c.requires.unsigned c.requires.small c.near-f.ensures).next
 
 pub returns : goal.returns
 returns c =
-    let B = both false c.args.a c.near-f.result (subst T (sym c.well-formed.1.0.1) tt) c.requires.0 c.requires.1 c.near-f.ensures in
-    ended (signed false c.args.a) c.with_sign-2.type-inv c.with_sign-3.type-inv (c.with_sign-2.ensures ∙ B.floor) (c.with_sign-3.ensures ∙ ap pos c.next-m.ensures ∙ B.ceil)
+    let B = both false c.args.a c.near-f.result (subst T (sym c.well_formed.1.0.1) tt) c.requires.unsigned c.requires.small c.near-f.ensures in
+    ended (signed false c.args.a) c.with_sign-2.type_inv c.with_sign-3.type_inv (c.with_sign-2.ensures ∙ B.floor) (c.with_sign-3.ensures ∙ ap pos c.next-m.ensures ∙ B.ceil)
     ∙ ap (λ (s : Bool). span_of (signed s c.args.a)) (sym c.if-s.false)

@@ -10,4 +10,4 @@ pub returns-then-a-gt2147483647 : goal.returns-then-a-gt2147483647
 returns-then-a-gt2147483647 c = rw c.if-s.false (most c.args.a c.if-a-gt2147483647.true)
 
 pub returns : goal.returns
-returns c = read_back c.with_sign.type-inv ∙ c.with_sign.ensures ∙ uncapped c.args.s c.args.a c.if-a-gt2147483647.false
+returns c = read_back c.with_sign.type_inv ∙ c.with_sign.ensures ∙ uncapped c.args.s c.args.a c.if-a-gt2147483647.false

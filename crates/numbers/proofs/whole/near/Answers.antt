@@ -10,22 +10,22 @@ pub returns-then-n-a : goal.returns-then-n-a
 unfolding of_bits
 returns-then-n-a c =
     let a = c.args.a in
-    raised a c.requires.0 c.requires.1 (yes c.if-n-a.true) ∙ ap (λ (u : Bool). whole_of u a) (sym c.if-up.true)
+    raised a c.requires.unsigned c.requires.small (yes c.if-n-a.true) ∙ ap (λ (u : Bool). whole_of u a) (sym c.if-up.true)
 
 pub returns-then-up : goal.returns-then-up
 unfolding of_bits
 returns-then-up c =
     let a = c.args.a in
-    high_enough a c.requires.0 c.requires.1 (no c.if-n-a.false) ∙ ap (λ (u : Bool). whole_of u a) (sym c.if-up.true)
+    high_enough a c.requires.unsigned c.requires.small (no c.if-n-a.false) ∙ ap (λ (u : Bool). whole_of u a) (sym c.if-up.true)
 
 pub returns-then-a-n : goal.returns-then-a-n
 unfolding of_bits
 returns-then-a-n c =
     let a = c.args.a in
-    lowered a c.requires.0 c.requires.1 (yes c.if-a-n.true) ∙ ap (λ (u : Bool). whole_of u a) (sym c.if-up.false)
+    lowered a c.requires.unsigned c.requires.small (yes c.if-a-n.true) ∙ ap (λ (u : Bool). whole_of u a) (sym c.if-up.false)
 
 pub returns : goal.returns
 unfolding of_bits
 returns c =
     let a = c.args.a in
-    low_enough a c.requires.0 c.requires.1 (no c.if-a-n.false) ∙ ap (λ (u : Bool). whole_of u a) (sym c.if-up.false)
+    low_enough a c.requires.unsigned c.requires.small (no c.if-a-n.false) ∙ ap (λ (u : Bool). whole_of u a) (sym c.if-up.false)

@@ -9,7 +9,7 @@ use Rattle.numbers.proofs.whole.span.Goals as goal
 
 pub between-requires : goal.between-requires
 unfolding of_bits
-between-requires c = (positive c.args.x (yes c.if-x.true), yes c.if-x-2.true)
+between-requires c = record { unsigned = positive c.args.x (yes c.if-x.true); small = yes c.if-x-2.true }
 
 pub returns-then-x-2 : goal.returns-then-x-2
 unfolding signed
@@ -17,10 +17,10 @@ returns-then-x-2 c = c.between.ensures
 
 pub between-requires-then-x-4 : goal.between-requires-then-x-4
 unfolding of_bits neg
-between-requires-then-x-4 c = minus c.args.x (yes c.if-x-3.true) (yes c.if-x-4.true)
+between-requires-then-x-4 c = let m = minus c.args.x (yes c.if-x-3.true) (yes c.if-x-4.true) in record { unsigned = m.0; small = m.1 }
 
 pub returns-then-x-4 : goal.returns-then-x-4
 returns-then-x-4 c = c.between-then-x-4.ensures ∙ ap span_of (sym (negated c.args.x))
 
 pub returns : goal.returns
-returns c = ended c.args.x c.floor_i32.type-inv c.ceil_i32.type-inv c.floor_i32.ensures c.ceil_i32.ensures
+returns c = ended c.args.x c.floor_i32.type_inv c.ceil_i32.type_inv c.floor_i32.ensures c.ceil_i32.ensures

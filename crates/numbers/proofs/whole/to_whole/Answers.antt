@@ -10,7 +10,7 @@ use Rattle.numbers.proofs.whole.to_whole.Goals as goal
 
 pub near-requires : goal.near-requires
 unfolding of_bits
-near-requires c = (subst (λ (v : Float). T (not (sign_of v))) (sym c.abs-a.ensures) (abs_clear c.args.x), yes c.if-a.true)
+near-requires c = record { unsigned = subst (λ (v : Float). T (not (sign_of v))) (sym c.abs-a.ensures) (abs_clear c.args.x); small = yes c.if-a.true }
 
 pub returns-then-a : goal.returns-then-a
 returns-then-a c =
@@ -25,4 +25,4 @@ pub returns : goal.returns
 unfolding of_bits
 returns c =
     let x = c.args.x in
-    kept c.args.away x (subst T (sym c.well-formed.1.0.1) tt) (subst (λ (v : Float). T (not (lt v limit))) c.abs-a.ensures (no c.if-a.false))
+    kept c.args.away x (subst T (sym c.well_formed.1.0.1) tt) (subst (λ (v : Float). T (not (lt v limit))) c.abs-a.ensures (no c.if-a.false))

@@ -7,7 +7,7 @@ use Rattle.numbers.proofs.whole.truncated.Goals as goal
 
 pub truncating_f32_to_u64-requires : goal.truncating_f32_to_u64-requires
 unfolding of_bits neg
-truncating_f32_to_u64-requires c = (yes c.if-x.true, below_wide c.args.x (yes c.if-x-2.true))
+truncating_f32_to_u64-requires c = record { lower_bound = yes c.if-x.true; upper_bound = below_wide c.args.x (yes c.if-x-2.true) }
 
 pub overflow_cast-result : goal.overflow_cast-result
 unfolding of_bits

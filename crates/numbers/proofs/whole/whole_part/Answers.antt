@@ -8,7 +8,7 @@ use Rattle.numbers.proofs.whole.whole_part.Goals as goal
 
 pub near-f-requires : goal.near-f-requires
 unfolding of_bits
-near-f-requires c = (positive c.args.x (yes c.if-x.true), yes c.if-x-2.true)
+near-f-requires c = record { unsigned = positive c.args.x (yes c.if-x.true); small = yes c.if-x-2.true }
 
 pub float_to_int-result : goal.float_to_int-result
 unfolding of_bits

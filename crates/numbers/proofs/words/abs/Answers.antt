@@ -10,4 +10,4 @@ returns-then-x c = size_above c.args.x (yes c.if-x.true)
 
 pub returns : goal.returns
 unfolding of_bits
-returns c = size_below c.args.x (subst T (sym c.well-formed.0.1) tt) (no c.if-x.false)
+returns c = size_below c.args.x (subst T (sym c.well_formed.0.1) tt) (no c.if-x.false)

@@ -11,4 +11,4 @@ pub float_to_bits-result : goal.float_to_bits-result
 float_to_bits-result c = is_number c.args.x c.if-x.false
 
 pub returns : goal.returns
-returns c = sign_bit c.args.x (subst T (sym c.well-formed.0.1) tt) (is_number c.args.x c.if-x.false)
+returns c = sign_bit c.args.x (subst T (sym c.well_formed.0.1) tt) (is_number c.args.x c.if-x.false)

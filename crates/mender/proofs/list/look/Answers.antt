@@ -1,0 +1,24 @@
+-- `mender::list::look` meets its contract. Assumes nothing.
+use Prim.Native.Nat.{◌-◌}
+use native.Mathlib.Omega.{arith}
+use borrow.Author.Rules.{rules}
+use Rattle.mender.proofs.Plans.{Planned, none_planned, plan_more, all_planned}
+use Rattle.mender.proofs.list.look.Goals as goal
+
+pub loop-k-init : goal.loop-k-init
+loop-k-init c = none_planned _ _ _
+
+pub loop-k-preserved : goal.loop-k-preserved
+loop-k-preserved c =
+    plan_more c.plan_at-here.result.paths c.plan_at-here.result.lines c.loop-k.invariant c.loop-k-test.true c.plan_at-here.ensures.0 c.plan_at-here.ensures.1
+
+pub overflow_add-paths : goal.overflow_add-paths
+overflow_add-paths c =
+    let m = plan_more c.plan_at-here.result.paths c.plan_at-here.result.lines c.loop-k.invariant c.loop-k-test.true c.plan_at-here.ensures.0 c.plan_at-here.ensures.1 in
+    omega (arith, m.few_paths, m.within)
+
+pub overflow_add-lines : goal.overflow_add-lines
+overflow_add-lines c = let m = loop-k-preserved c in omega (arith, m.few_lines, m.within)
+
+pub returns : goal.returns
+returns c = all_planned c.loop-k.invariant c.loop-k-test.false

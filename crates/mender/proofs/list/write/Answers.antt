@@ -1,0 +1,25 @@
+-- `mender::list::write` meets its contract. Assumes nothing.
+use Prim.Native.Nat.{◌-◌}
+use native.Mathlib.Omega.{arith}
+use Rattle.mender.proofs.Plans.{Wrote, none_wrote, same_room, same_report, wrote_room, wrote_more, all_wrote}
+use Rattle.mender.proofs.list.write.Goals as goal
+
+pub loop-k-init : goal.loop-k-init
+loop-k-init c = none_wrote _ _ _ _ _
+
+pub write_at-done-requires : goal.write_at-done-requires
+write_at-done-requires c =
+    wrote_room c.loop-k.invariant c.loop-k-test.true c.requires
+
+pub loop-k-preserved : goal.loop-k-preserved
+loop-k-preserved c =
+    wrote_more c.loop-k.invariant c.loop-k-test.true c.write_at-done.ensures
+
+pub returns : goal.returns
+returns c = all_wrote c.loop-k.invariant c.loop-k-test.false
+
+pub shape_of-room : goal.shape_of-room
+shape_of-room c = same_room c.loop-k.invariant
+
+pub shape_of-report : goal.shape_of-report
+shape_of-report c = same_report c.loop-k.invariant
