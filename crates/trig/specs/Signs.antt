@@ -99,6 +99,13 @@ eq_swap x y h k = go (lt x y) (lt y x) (eq x y) (eq y x) (ordered x y h k)
     go true false false false less = refl
     go false true false false more = refl
     go false false true true alike = refl
+    go false false false d never = elim never [ ]
+    go false false true false never = elim never [ ]
+    go false true false true never = elim never [ ]
+    go false true true d never = elim never [ ]
+    go true false false true never = elim never [ ]
+    go true false true d never = elim never [ ]
+    go true true c d never = elim never [ ]
 
 pub neg_le : (x y : Float) → T (le x y) → T (le (neg y) (neg x))
 neg_le x y h = let e = eq_swap x y (le_number_left x y h) (le_number_right x y h) in unfold le in rw (neg_lt y x, neg_eq y x, ← e) h
@@ -110,6 +117,13 @@ lt_not_le x y h = let l = lt→le x y h in unfold le in go (lt x y) (lt y x) (eq
     go true false false false less h = refl
     go false true false false more h = absurd h
     go false false true true alike h = absurd h
+    go false false false d never h = elim never [ ]
+    go false false true false never h = elim never [ ]
+    go false true false true never h = elim never [ ]
+    go false true true d never h = elim never [ ]
+    go true false false true never h = elim never [ ]
+    go true false true d never h = elim never [ ]
+    go true true c d never h = elim never [ ]
 
 -- what is above a number that is not negative has no sign
 pub sign_above : (m : ℕ) (e : ℤ) (x : Float) → T (lt (fin false m e) x) → sign_of x ≡ false

@@ -1,5 +1,5 @@
 -- `roots::cbrt` meets its contract, by the pattern of x. Assumes nothing.
-use Rattle.std.proofs.Common.{◌≡◌, ℕ, ◌+◌, ◌*◌, ◌%◌, ◌^◌, ◌<◌, ◌≤◌, not, T, leb, sym, ap, ◌∙◌, subst, arith, rules}
+use Rattle.std.proofs.Common.{◌≡◌, ℕ, ◌+◌, ◌*◌, ◌%◌, ◌^◌, ◌<◌, ◌≤◌, not, T, leb, sym, ap, ◌∙◌, subst, arith}
 use lib.Ieee.Bits.{to_bits-lt}
 use lib.Ieee.{Float, binary32, of_bits, fits, to_bits}
 use Rattle.roots.specs.Root.{cbrt_of, nearest_root}
@@ -8,10 +8,6 @@ use Rattle.roots.specs.Parts.{mag_bits}
 use Rattle.roots.proofs.Patterns.{worth, infinite, is_zero, sign_bits, cbrt_of_lem, zero_stays, mag_pos, is_nan_lem, is_number, no_nan_pattern}
 use Rattle.roots.proofs.cbrt.Goals as goal
 
--- what owning an `f32` tells: the format holds it
-held : (c : tie.Start) → T (fits binary32 c.args.x)
-held c = subst T (sym c.well-formed.0.1) tt
-
 pub returns-then-x : goal.returns-then-x
 returns-then-x c = let z = is_nan_lem c.args.x c.if-x.true in z ∙ sym cbrt_nan ∙ ap (λ (v : Float). cbrt_of v) (sym z)
 
@@ -19,13 +15,13 @@ pub float_to_bits-b : goal.float_to_bits-b
 float_to_bits-b c = is_number c.args.x c.if-x.false
 
 pub returns-then-a-eq0 : goal.returns-then-a-eq0
-returns-then-a-eq0 c = zero_stays _ _ (is_zero _ (held c) c.if-a-eq0.true) cbrt_of cbrt_zero
+returns-then-a-eq0 c = zero_stays _ _ (is_zero _ (subst T (sym c.well_formed.0.1) tt) c.if-a-eq0.true) cbrt_of cbrt_zero
 
 pub overflow_mul-result : goal.overflow_mul-result
-overflow_mul-result c = omega (arith, to_bits-lt binary32 _ (held c))
+overflow_mul-result c = omega (arith, to_bits-lt binary32 _ (subst T (sym c.well_formed.0.1) tt))
 
 pub overflow_add-result : goal.overflow_add-result
-overflow_add-result c = let h = c.cbrt_bits.ensures.number in omega (arith, to_bits-lt binary32 _ (held c))
+overflow_add-result c = let h = c.cbrt_bits.ensures.number in omega (arith, to_bits-lt binary32 _ (subst T (sym c.well_formed.0.1) tt))
 
 pub float_from_bits-result : goal.float_from_bits-result
 float_from_bits-result c = let h = c.cbrt_bits.ensures.number in no_nan_pattern _ (omega arith)
@@ -36,7 +32,7 @@ root_is x F z l = cbrt_of_lem x _ _ (mag_pos (to_bits binary32 x % 2 ^ 31) (omeg
 pub returns-then-a-lt2139095040 : goal.returns-then-a-lt2139095040
 returns-then-a-lt2139095040 c =
     let x = c.args.x in
-    let F = held c in
+    let F = subst T (sym c.well_formed.0.1) tt in
     ap (λ (n : ℕ). of_bits binary32 (n + c.cbrt_bits.result)) (sign_bits x F)
     ∙ c.cbrt_bits.ensures.right (leb (2 ^ 31) (to_bits binary32 x))
     ∙ sym (root_is x F c.if-a-eq0.false c.if-a-lt2139095040.true)
@@ -45,4 +41,4 @@ infinity : (x : Float) → T (fits binary32 x) → T (not (lib.Ieee.is_nan x)) �
 infinity x F N l = let z = infinite x F N l in z ∙ sym (cbrt_infinity _) ∙ ap (λ (v : Float). cbrt_of v) (sym z)
 
 pub returns : goal.returns
-returns c = infinity _ (held c) (is_number _ c.if-x.false) c.if-a-lt2139095040.false
+returns c = infinity _ (subst T (sym c.well_formed.0.1) tt) (is_number _ c.if-x.false) c.if-a-lt2139095040.false

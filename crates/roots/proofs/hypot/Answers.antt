@@ -1,5 +1,5 @@
 -- `roots::hypot` meets its contract: a candidate that is settled, or the root with none. Assumes nothing.
-use Rattle.std.proofs.Common.{inl, inr, arith, rules}
+use Rattle.std.proofs.Common.{inl, inr, arith}
 use Rattle.roots.proofs.Patterns.{no_nan_pattern}
 use Rattle.roots.proofs.hypot.Goals as goal
 

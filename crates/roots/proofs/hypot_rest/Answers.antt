@@ -1,5 +1,5 @@
 -- `roots::hypot_rest` meets its contract, by the patterns of x and y. Assumes nothing.
-use Rattle.std.proofs.Common.{◌≡◌, ℕ, ◌+◌, ◌*◌, ◌%◌, ◌^◌, ◌<◌, ◌≤◌, not, T, sym, ap, ◌∙◌, subst, inl, inr, add_comm, arith, lit≤, rules}
+use Rattle.std.proofs.Common.{◌≡◌, ℕ, ◌+◌, ◌*◌, ◌%◌, ◌^◌, ◌<◌, ◌≤◌, not, T, sym, ap, ◌∙◌, subst, inl, inr, add_comm, arith, lit≤}
 use lib.Ieee.{Float, binary32, of_bits, fits, to_bits, nan_bits}
 use Rattle.roots.specs.Root.{hypot_of}
 use Rattle.roots.specs.Parts.{mag_bits, root_bits, Sorted}
@@ -7,13 +7,6 @@ use Rattle.roots.specs.Rules.{hypot_infinity, hypot_infinity_2, hypot_nan, hypot
 use Rattle.roots.proofs.Patterns.{infinite_at, nan_at, no_infinity, pair_of, no_nan_pattern, plus_inf}
 use Rattle.roots.proofs.Sums.{both}
 use Rattle.roots.proofs.hypot_rest.Goals as goal
-
--- what owning an `f32` tells: the format holds it
-held_x : (c : tie.Start) → T (fits binary32 c.args.x)
-held_x c = subst T (sym c.well-formed.0.1) tt
-
-held_y : (c : tie.Start) → T (fits binary32 c.args.y)
-held_y c = subst T (sym c.well-formed.1.0.1) tt
 
 inf_no_nan : T (not (nan_bits binary32 0x7f80_0000))
 inf_no_nan = no_nan_pattern 0x7f80_0000 (lit≤ tt)
@@ -55,29 +48,29 @@ returns-then-h-lt2139095040 c =
     let q = c.pattern-b in
     let S = c.sorted-p.ensures in
     let l = both_lt _ _ _ _ S c.if-h-lt2139095040.true in
-    finite _ _ p.result q.result _ (held_x c) (held_y c) p.ensures q.ensures l.0 l.1 (either_way _ _ _ _ _ S c.hypot_bits.ensures)
+    finite _ _ p.result q.result _ (subst T (sym c.well_formed.0.1) tt) (subst T (sym c.well_formed.1.0.1) tt) p.ensures q.ensures l.0 l.1 (either_way _ _ _ _ _ S c.hypot_bits.ensures)
 
 pub float_from_bits-result-then-a-eq2139095040 : goal.float_from_bits-result-then-a-eq2139095040
 float_from_bits-result-then-a-eq2139095040 c = inf_no_nan
 
 pub returns-then-a-eq2139095040 : goal.returns-then-a-eq2139095040
 returns-then-a-eq2139095040 c =
-    plus_inf ∙ sym (ap (λ (v : Float). hypot_of v c.args.y) (infinite_at _ (held_x c) (sym c.pattern-a.ensures ∙ c.if-a-eq2139095040.true)) ∙ hypot_infinity _ c.args.y)
+    plus_inf ∙ sym (ap (λ (v : Float). hypot_of v c.args.y) (infinite_at _ (subst T (sym c.well_formed.0.1) tt) (sym c.pattern-a.ensures ∙ c.if-a-eq2139095040.true)) ∙ hypot_infinity _ c.args.y)
 
 pub float_from_bits-result-then-b-eq2139095040 : goal.float_from_bits-result-then-b-eq2139095040
 float_from_bits-result-then-b-eq2139095040 c = inf_no_nan
 
 pub returns-then-b-eq2139095040 : goal.returns-then-b-eq2139095040
 returns-then-b-eq2139095040 c =
-    plus_inf ∙ sym (ap (λ (v : Float). hypot_of c.args.x v) (infinite_at _ (held_y c) (sym c.pattern-b.ensures ∙ c.if-b-eq2139095040.true)) ∙ hypot_infinity_2 c.args.x _)
+    plus_inf ∙ sym (ap (λ (v : Float). hypot_of c.args.x v) (infinite_at _ (subst T (sym c.well_formed.1.0.1) tt) (sym c.pattern-b.ensures ∙ c.if-b-eq2139095040.true)) ∙ hypot_infinity_2 c.args.x _)
 
 pub returns-then-a-gt2139095040 : goal.returns-then-a-gt2139095040
 returns-then-a-gt2139095040 c =
-    let z = nan_at _ (held_x c) (subst (λ (n : ℕ). 0x7f80_0000 < n) c.pattern-a.ensures c.if-a-gt2139095040.true) in
+    let z = nan_at _ (subst T (sym c.well_formed.0.1) tt) (subst (λ (n : ℕ). 0x7f80_0000 < n) c.pattern-a.ensures c.if-a-gt2139095040.true) in
     z ∙ sym (ap (λ (v : Float). hypot_of v c.args.y) z ∙ hypot_nan c.args.y (no_infinity _ (λ e. c.if-b-eq2139095040.false (c.pattern-b.ensures ∙ e))))
 
 pub returns : goal.returns
 returns c =
     let h = last _ _ _ _ c.sorted-p.ensures c.if-h-lt2139095040.false c.if-a-gt2139095040.false c.if-a-eq2139095040.false c.if-b-eq2139095040.false in
-    let z = nan_at _ (held_y c) (subst (λ (n : ℕ). 0x7f80_0000 < n) c.pattern-b.ensures h) in
+    let z = nan_at _ (subst T (sym c.well_formed.1.0.1) tt) (subst (λ (n : ℕ). 0x7f80_0000 < n) c.pattern-b.ensures h) in
     z ∙ sym (ap (λ (v : Float). hypot_of c.args.x v) z ∙ hypot_nan_2 c.args.x (no_infinity _ (λ e. c.if-a-eq2139095040.false (c.pattern-a.ensures ∙ e))))

@@ -1,5 +1,5 @@
 -- `roots::sqrt` meets its contract, by the pattern of x. Assumes nothing.
-use Rattle.std.proofs.Common.{◌≡◌, ℕ, ◌+◌, ◌*◌, ◌%◌, ◌^◌, ◌<◌, ◌≤◌, false, T, sym, ap, ◌∙◌, subst, lt_irrefl, zero-add, arith, rules}
+use Rattle.std.proofs.Common.{◌≡◌, ℕ, ◌+◌, ◌*◌, ◌%◌, ◌^◌, ◌<◌, ◌≤◌, false, T, sym, ap, ◌∙◌, subst, lt_irrefl, zero-add, arith}
 use lib.Ieee.Bits.{to_bits-lt}
 use lib.Ieee.{Float, binary32, of_bits, to_bits, fits}
 use Rattle.roots.specs.Root.{sqrt_of, nearest_root}
@@ -7,10 +7,6 @@ use Rattle.roots.specs.Parts.{mag_bits, root_bits}
 use Rattle.roots.proofs.Patterns.{is_number, no_nan_pattern}
 use Rattle.roots.proofs.Upward.{sqrt_is, keeps_nan, positive}
 use Rattle.roots.proofs.sqrt.Goals as goal
-
--- what owning an `f32` tells: the format holds it
-held : (c : tie.Start) → T (fits binary32 c.args.x)
-held c = subst T (sym c.well-formed.0.1) tt
 
 -- what the one test tells of a pattern b
 normal : (b w : ℕ) → b < 2 ^ 32 → (w + 8388608) % 2 ^ 32 ≡ b → w < 0x7f00_0000 → (2 ^ 23 ≤ b) × (b < 0x7f80_0000)
@@ -36,5 +32,5 @@ float_from_bits-result c = let h = c.sqrt_bits.ensures.number in no_nan_pattern 
 
 pub returns-then-wrapping_sub_u32-lt2130706432 : goal.returns-then-wrapping_sub_u32-lt2130706432
 returns-then-wrapping_sub_u32-lt2130706432 c =
-    let n = normal _ _ (to_bits-lt binary32 c.args.x (held c)) c.wrapping_sub_u32.ensures c.if-wrapping_sub_u32-lt2130706432.true in
-    of_normal _ _ (held c) n.0 n.1 c.sqrt_bits.ensures
+    let n = normal _ _ (to_bits-lt binary32 c.args.x (subst T (sym c.well_formed.0.1) tt)) c.wrapping_sub_u32.ensures.value c.if-wrapping_sub_u32-lt2130706432.true in
+    of_normal _ _ (subst T (sym c.well_formed.0.1) tt) n.0 n.1 c.sqrt_bits.ensures

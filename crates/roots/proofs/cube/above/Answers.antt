@@ -1,5 +1,4 @@
 -- `roots::cube::above` meets its contract. Assumes nothing.
-use Rattle.std.proofs.Common.{rules}
 use Rattle.roots.proofs.cube.above.Goals as goal
 
 pub returns-then-is_near : goal.returns-then-is_near

@@ -1,5 +1,4 @@
 -- `roots::cube::beside` meets its contract. Assumes nothing.
-use Rattle.std.proofs.Common.{rules}
 use Rattle.roots.proofs.cube.beside.Goals as goal
 
 pub returns-then-is_near : goal.returns-then-is_near

@@ -1,5 +1,5 @@
 -- `roots::cube::cbrt_bits` meets its contract, by the laws of `Cubes`. Assumes nothing.
-use Rattle.std.proofs.Common.{ℕ, ◌+◌, ◌*◌, ◌^◌, subst, mul_assoc, arith, rules}
+use Rattle.std.proofs.Common.{ℕ, ◌+◌, ◌*◌, ◌^◌, subst, mul_assoc, arith}
 use Rattle.roots.specs.Parts.{root_bits, mag_bits}
 use Rattle.roots.proofs.Cubes.{times_le, third_least, third_most, near_most, cbrt_is}
 use Rattle.roots.proofs.cube.cbrt_bits.Goals as goal

@@ -1,5 +1,5 @@
 -- `roots::cube::power` meets its contract. Assumes nothing.
-use Rattle.std.proofs.Common.{◌≡◌, ℕ, zero, suc, ◌*◌, ◌%◌, ◌^◌, ◌<◌, refl, lt_irrefl, arith, rules}
+use Rattle.std.proofs.Common.{◌≡◌, ℕ, zero, suc, ◌*◌, ◌%◌, ◌^◌, ◌<◌, refl, lt_irrefl, arith}
 use Rattle.roots.proofs.cube.power.Goals as goal
 
 small : (n : ℕ) → n < 4 → 1 * 2 ^ n % 2 ^ 32 ≡ 2 ^ n

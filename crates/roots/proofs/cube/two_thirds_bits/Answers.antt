@@ -1,5 +1,5 @@
 -- `roots::cube::two_thirds_bits` meets its contract, by the laws of `Cubes`. Assumes nothing.
-use Rattle.std.proofs.Common.{ℕ, ◌^◌, ◌<◌, ◌≤◌, sym, subst, arith, rules}
+use Rattle.std.proofs.Common.{ℕ, ◌^◌, ◌<◌, ◌≤◌, sym, subst, arith}
 use Rattle.roots.proofs.Cubes.{factor_le, square_least, square_most, near_most, two_thirds_is}
 use Rattle.roots.proofs.cube.two_thirds_bits.Goals as goal
 

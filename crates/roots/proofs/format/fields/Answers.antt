@@ -1,5 +1,5 @@
 -- `roots::format::fields` meets its contract. Assumes nothing.
-use Rattle.std.proofs.Common.{refl, ◌∙◌, inl, inr, lt_irrefl, mul-one, arith, rules}
+use Rattle.std.proofs.Common.{refl, ◌∙◌, inl, inr, lt_irrefl, mul-one, arith}
 use Rattle.roots.proofs.Patterns.{tiny, full}
 use Rattle.roots.proofs.format.fields.Goals as goal
 

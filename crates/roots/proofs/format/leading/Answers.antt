@@ -1,6 +1,5 @@
 -- `roots::format::leading` meets its contract. Assumes nothing.
 use Rattle.roots.proofs.Patterns.{is_number}
-use Rattle.std.proofs.Common.{rules}
 use Rattle.roots.proofs.format.leading.Goals as goal
 
 pub float_to_bits-s : goal.float_to_bits-s

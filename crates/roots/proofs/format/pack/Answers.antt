@@ -1,6 +1,5 @@
 -- `roots::format::pack` meets its contract. Assumes nothing.
-use Rattle.std.proofs.Common.{◌≡◌, ℕ, suc, ◌+◌, ◌*◌, ◌/◌, ◌^◌, ◌<◌, ◌≤◌, min, sym, subst, lt_of_le_of_lt, div-le_self, div-mul-le_self, arith, pow_pos, rules}
-use Rattle.roots.specs.Parts.{packed}
+use Rattle.std.proofs.Common.{◌≡◌, ℕ, ◌+◌, ◌*◌, ◌/◌, ◌^◌, ◌<◌, ◌≤◌, sym, subst, lt_of_le_of_lt, div-le_self, div-mul-le_self, arith, pow_pos}
 use Rattle.roots.proofs.Packing.{packed_is}
 use Rattle.roots.proofs.format.pack.Goals as goal
 
@@ -19,32 +18,23 @@ middle r h l = at (r / (h * 2)) (div-mul-le_self r (h * 2))
 pub nonzero_div-q : goal.nonzero_div-q
 nonzero_div-q c = twice_pos _ _ c.spare-p.ensures.1
 
-q_le : (c : tie.After-spare) → c.before.args.s.r / (c.spare.result.m * 2) ≤ c.before.args.s.r
-q_le c = div-le_self c.before.args.s.r (c.spare.result.m * 2)
-
 pub overflow_mul-q-2 : goal.overflow_mul-q-2
-overflow_mul-q-2 c = omega (arith, q_le c)
+overflow_mul-q-2 c = omega (arith, div-le_self c.args.s.r (c.spare-p.result.m * 2))
 
 pub overflow_add-q : goal.overflow_add-q
-overflow_add-q c = omega (arith, q_le c)
+overflow_add-q c = omega (arith, div-le_self c.args.s.r (c.spare-p.result.m * 2))
 
 pub overflow_mul-q-3 : goal.overflow_mul-q-3
 overflow_mul-q-3 c = record { fits = lt_of_le_of_lt (middle c.args.s.r c.spare-p.result.m c.spare-p.ensures.2) (omega arith) }
 
 pub turn-n-requires : goal.turn-n-requires
-turn-n-requires c = omega (arith, q_le c)
-
-n_le : (c : tie.After-turn) → c.turn.result ≤ suc c.before.before.args.s.r
-n_le c = let h = q_le c.before in let k = c.turn.ensures.1 in omega arith
+turn-n-requires c = omega (arith, div-le_self c.args.s.r (c.spare-p.result.m * 2))
 
 pub overflow_add-b-2 : goal.overflow_add-b-2
-overflow_add-b-2 c = omega (arith, n_le c)
-
-is : (c : tie.After-turn) → min ((c.before.before.args.c + c.before.spare.result.t) * 8388608 + c.turn.result) 0x7f80_0000 ≡ packed c.before.before.args.s.r c.before.before.args.s.e c.before.before.args.c
-is c = packed_is _ _ _ _ _ _ c.before.spare.ensures.0 c.before.spare.ensures.1 c.turn.ensures.0
+overflow_add-b-2 c = omega (arith, div-le_self c.args.s.r (c.spare-p.result.m * 2))
 
 pub returns-then-b-lt2139095040 : goal.returns-then-b-lt2139095040
-returns-then-b-lt2139095040 c = omega (arith, is c)
+returns-then-b-lt2139095040 c = omega (arith, packed_is c.args.s.r c.args.s.e c.args.c _ _ _ c.spare-p.ensures.0 c.spare-p.ensures.1 c.turn-n.ensures.0)
 
 pub returns-else-b-lt2139095040 : goal.returns-else-b-lt2139095040
-returns-else-b-lt2139095040 c = omega (arith, is c)
+returns-else-b-lt2139095040 c = omega (arith, packed_is c.args.s.r c.args.s.e c.args.c _ _ _ c.spare-p.ensures.0 c.spare-p.ensures.1 c.turn-n.ensures.0)

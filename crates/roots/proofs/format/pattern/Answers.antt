@@ -1,5 +1,5 @@
 -- `roots::format::pattern` meets its contract. Assumes nothing.
-use Rattle.std.proofs.Common.{◌≡◌, ◌%◌, ◌^◌, sym, refl, ap, ◌∙◌, rules}
+use Rattle.std.proofs.Common.{◌≡◌, ◌%◌, ◌^◌, sym, refl, ap, ◌∙◌}
 use lib.Ieee.{Float, nan, binary32, to_bits}
 use Rattle.roots.proofs.Patterns.{is_nan_lem, is_number}
 use Rattle.roots.proofs.format.pattern.Goals as goal

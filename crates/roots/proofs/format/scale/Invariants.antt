@@ -1,6 +1,5 @@
 -- `roots::format::scale` meets its contract. The invariant: m * 2 ^ t stays n * 2 ^ 149, and m has at least 150 - t digits. Assumes nothing.
-use Rattle.std.proofs.Common.{◌≡◌, ℕ, suc, ◌-◌, ◌*◌, ◌^◌, ◌<◌, ◌≤◌, sym, refl, ap, ◌∙◌, subst, le_trans, lt_of_lt_of_le, lt_irrefl, mul_assoc, lt_of_not-le, arith, pow_mono}
-use native.Mathlib.Nat.{pow-succ'}
+use Rattle.std.proofs.Common.{◌≡◌, ◌-◌, ◌*◌, ◌^◌, ◌<◌, ◌≤◌}
 use Rattle.roots.proofs.format.scale.Given as goal
 
 abbrev pub invariant-loop-m : goal.invariant-loop-m

@@ -1,6 +1,5 @@
 -- `roots::format::spare` meets its contract. The invariant: h is 2 ^ i, and r has at least 25 + i digits unless i is 0. Assumes nothing.
-use Rattle.std.proofs.Common.{◌≡◌, ℕ, ◌+◌, ◌-◌, ◌*◌, ◌/◌, ◌^◌, ◌<◌, ◌≤◌, ◌⊎◌, sym, refl, ap, ◌∙◌, inl, inr, le_trans, le_of_eq, lt_of_lt_of_le, div-lt_iff_lt-mul, pow-suc, le-div_iff_mul-le, add-one, arith, pow-add}
-use Rattle.roots.proofs.Packing.{digits_of}
+use Rattle.std.proofs.Common.{◌≡◌, ◌+◌, ◌-◌, ◌^◌, ◌<◌, ◌≤◌, ◌⊎◌}
 use Rattle.roots.proofs.format.spare.Given as goal
 
 abbrev pub invariant-loop-h : goal.invariant-loop-h

@@ -1,5 +1,5 @@
 -- `roots::format::turn` meets its contract. Assumes nothing.
-use Rattle.std.proofs.Common.{◌≡◌, ℕ, ◌+◌, ◌*◌, ◌%◌, ◌<◌, min, sym, ◌∙◌, add-one, arith, rules}
+use Rattle.std.proofs.Common.{◌≡◌, ℕ, ◌+◌, ◌*◌, ◌%◌, ◌<◌, min, sym, ◌∙◌, add-one, arith}
 use Prim.Native.Nat.{compare}
 use lib.Ieee.{nearest}
 use Rattle.roots.specs.Laws.{below, above, level}

@@ -1,5 +1,5 @@
 -- `roots::format::unpack` meets its contract: the fields of the bits are the number's. Assumes nothing.
-use Rattle.std.proofs.Common.{◌≡◌, ℕ, ◌+◌, ◌-◌, ◌*◌, ◌/◌, ◌%◌, ◌^◌, sym, ap, ◌∙◌, subst, mul_assoc, arith, pow-add, rules}
+use Rattle.std.proofs.Common.{◌≡◌, ℕ, ◌+◌, ◌-◌, ◌*◌, ◌/◌, ◌%◌, ◌^◌, sym, ap, ◌∙◌, subst, mul_assoc, arith, pow-add}
 use Rattle.roots.specs.Parts.{Scaled, mag_bits}
 use Rattle.roots.proofs.Patterns.{tiny, full}
 use Rattle.roots.proofs.format.unpack.Goals as goal

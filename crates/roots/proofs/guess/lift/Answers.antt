@@ -1,5 +1,5 @@
 -- `roots::guess::lift` meets its contract. Assumes nothing.
-use Rattle.std.proofs.Common.{ℕ, ◌+◌, ◌*◌, ◌<◌, ◌≤◌, mul-le-mul, arith, rules}
+use Rattle.std.proofs.Common.{ℕ, ◌+◌, ◌*◌, ◌<◌, ◌≤◌, mul-le-mul, arith}
 use Rattle.roots.proofs.Patterns.{no_nan_pattern}
 use Rattle.roots.proofs.guess.lift.Goals as goal
 

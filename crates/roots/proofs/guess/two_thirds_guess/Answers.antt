@@ -1,5 +1,5 @@
 -- `roots::guess::two_thirds_guess` meets its contract: none of the patterns is a NaN's. Assumes nothing.
-use Rattle.std.proofs.Common.{arith, rules}
+use Rattle.std.proofs.Common.{arith}
 use Rattle.roots.proofs.Patterns.{no_nan_pattern}
 use Rattle.roots.proofs.guess.two_thirds_guess.Goals as goal
 

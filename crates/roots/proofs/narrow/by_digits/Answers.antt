@@ -1,5 +1,4 @@
 -- `roots::narrow::by_digits` meets its contract. Assumes nothing.
-use Rattle.std.proofs.Common.{rules}
 use Rattle.roots.proofs.Cubes.{digits_near}
 use Rattle.roots.proofs.narrow.by_digits.Goals as goal
 

@@ -1,5 +1,5 @@
 -- `roots::narrow::is_near` meets its contract, by `near`. Assumes nothing.
-use Rattle.std.proofs.Common.{T, sym, subst, true≢false, arith, leb→le, rules}
+use Rattle.std.proofs.Common.{T, sym, subst, true≢false, arith, leb→le}
 use Rattle.roots.proofs.Products.{part_fits, cube_fits, high_fits, near}
 use Rattle.roots.proofs.narrow.is_near.Goals as goal
 
@@ -22,7 +22,7 @@ overflow_add-c-2 c =
     omega (arith, c.product.ensures, cube_fits _ _ _ p.0 s.0 s.1, high_fits _ _ _ p.0 s.0 s.1)
 
 pub returns-then-c-u : goal.returns-then-c-u
-returns-then-c-u c = absurd (true≢false (sym h))
+returns-then-c-u c = λ h. absurd (true≢false (sym h))
 
 pub overflow_add-result : goal.overflow_add-result
 overflow_add-result c =
@@ -31,7 +31,7 @@ overflow_add-result c =
     omega (arith, c.product.ensures, cube_fits _ _ _ p.0 s.0 s.1)
 
 pub returns : goal.returns
-returns c =
+returns c = λ h.
     let s = c.square-s.ensures in
     let p = c.requires in
     near _ _ _ p.0 s.0 s.1 _ _ p.1 c.product.ensures c.if-c-u.false (leb→le _ _ (subst T (sym h) tt))

@@ -1,6 +1,5 @@
 -- `roots::narrow::root25` meets its contract: what is read so far, with what is left, stays the number that came in, moved up by i digits. Assumes nothing.
-use Rattle.std.proofs.Common.{◌≡◌, ℕ, ◌+◌, ◌-◌, ◌*◌, ◌/◌, ◌%◌, ◌^◌, ◌<◌, ◌≤◌, ap, ◌∙◌, arith, lit≤}
-use Rattle.roots.proofs.Feeding.{fed, done, grown, bounded}
+use Rattle.std.proofs.Common.{◌≡◌, ◌+◌, ◌-◌, ◌*◌, ◌^◌, ◌<◌, ◌≤◌}
 use Rattle.roots.proofs.narrow.root25.Given as goal
 
 abbrev pub invariant-loop-i : goal.invariant-loop-i

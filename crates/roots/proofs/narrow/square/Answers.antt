@@ -1,5 +1,5 @@
 -- `roots::narrow::square` meets its contract. Assumes nothing.
-use Rattle.std.proofs.Common.{arith, rules}
+use Rattle.std.proofs.Common.{arith}
 use Rattle.roots.proofs.Products.{square_is, square_le, low_square}
 use Rattle.roots.proofs.narrow.square.Goals as goal
 

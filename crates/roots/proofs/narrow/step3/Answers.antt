@@ -1,5 +1,5 @@
 -- `roots::narrow::step3` meets its contract: (2 r + 1) ^ 3 is 8 r ^ 3 + 12 r ^ 2 + 6 r + 1. Assumes nothing.
-use Rattle.std.proofs.Common.{◌≡◌, ℕ, ◌+◌, ◌-◌, ◌*◌, ◌%◌, ◌^◌, ◌<◌, ◌≤◌, le_of_lt, mul-le-mul, arith, rules}
+use Rattle.std.proofs.Common.{◌≡◌, ℕ, ◌+◌, ◌-◌, ◌*◌, ◌%◌, ◌^◌, ◌<◌, ◌≤◌, le_of_lt, mul-le-mul, arith}
 use Rattle.roots.specs.Parts.{Cubed}
 use Rattle.roots.proofs.narrow.step3.Goals as goal
 

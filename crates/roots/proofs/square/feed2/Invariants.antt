@@ -1,6 +1,5 @@
 -- `roots::square::feed2` meets its contract: what is read so far, with what is left, stays the number that came in, moved up by i digits. Assumes nothing.
-use Rattle.std.proofs.Common.{◌≡◌, ◌+◌, ◌-◌, ◌*◌, ◌^◌, ◌<◌, ◌≤◌, sym, le_of_eq, mul-one, arith, rules}
-use Rattle.roots.proofs.Feeding.{fed, done, grown, bounded}
+use Rattle.std.proofs.Common.{◌≡◌, ◌+◌, ◌-◌, ◌*◌, ◌^◌, ◌<◌, ◌≤◌}
 use Rattle.roots.proofs.square.feed2.Given as goal
 
 abbrev pub invariant-loop-i : goal.invariant-loop-i

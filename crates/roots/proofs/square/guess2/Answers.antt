@@ -1,5 +1,5 @@
 -- `roots::square::guess2` meets its contract. Assumes nothing.
-use Rattle.std.proofs.Common.{arith, rules}
+use Rattle.std.proofs.Common.{arith}
 use Rattle.roots.proofs.Patterns.{no_nan_wide}
 use Rattle.roots.proofs.square.guess2.Goals as goal
 

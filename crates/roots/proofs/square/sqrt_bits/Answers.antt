@@ -1,5 +1,5 @@
 -- `roots::square::sqrt_bits` meets its contract: a candidate that is settled is the nearest, by `sqrt_settled`. Assumes nothing.
-use Rattle.std.proofs.Common.{inl, inr, rules}
+use Rattle.std.proofs.Common.{inl, inr}
 use Rattle.roots.proofs.Candidates.{sqrt_settled}
 use Rattle.roots.proofs.square.sqrt_bits.Goals as goal
 

@@ -1,5 +1,5 @@
 -- `roots::square::sqrt_digits` meets its contract, by the laws of `Squares`. Assumes nothing.
-use Rattle.std.proofs.Common.{◌*◌, ◌^◌, sym, subst, lt_trans, arith, lit<, lit≤, rules}
+use Rattle.std.proofs.Common.{◌*◌, ◌^◌, sym, subst, lt_trans, arith, lit<, lit≤}
 use Rattle.roots.specs.Parts.{root_bits, mag_bits}
 use Rattle.roots.proofs.Squares.{small, r_lt, right}
 use Rattle.roots.proofs.square.sqrt_digits.Goals as goal

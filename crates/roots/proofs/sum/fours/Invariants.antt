@@ -1,6 +1,5 @@
 -- `roots::sum::fours` meets its contract. Assumes nothing.
-use Rattle.std.proofs.Common.{◌≡◌, ℕ, ◌-◌, ◌*◌, ◌^◌, ◌≤◌, sym, refl, ap, ◌∙◌, le_trans, le_of_eq, pow-suc, add-one, arith, lit<}
-use native.Mathlib.Nat.{pow-le-pow_right}
+use Rattle.std.proofs.Common.{◌≡◌, ◌-◌, ◌^◌, ◌≤◌}
 use Rattle.roots.proofs.sum.fours.Given as goal
 
 abbrev pub invariant-loop-i : goal.invariant-loop-i

@@ -5,8 +5,7 @@ use native.Mathlib.Omega.{arith}
 use lib.Pow.{shr-shr, field, mod-mod-pow, mod-pow-add}
 use Rattle.trig.specs.Trig.{two_over_pi}
 use borrow.Author.Rules.{rules}
-use Rattle.trig.proofs.digits.Statement.{statement}
-use Rattle.trig.proofs.digits.Tie as tie
+use Rattle.trig.proofs.digits.Goals as goal
 
 -- the word i of t and the next, as 64 digits
 paired : (t i : ℕ) → i ≤ 9 → t / 2 ^ (32 * (10 - i)) % 2 ^ 32 * 2 ^ 32 + t / 2 ^ (32 * (10 - (i + 1))) % 2 ^ 32 ≡ t / 2 ^ (32 * (9 - i)) % 2 ^ 64
@@ -31,20 +30,7 @@ cut t p h =
     window (t / 2 ^ (32 * (9 - p / 32))) (32 - p % 32) (omega arith)
     ∙ ap (λ (n : ℕ). n % 2 ^ 32) (shr-shr t (32 * (9 - p / 32)) (32 - p % 32) ∙ ap (λ (n : ℕ). t / 2 ^ n) e)
 
-returns : tie.Need-returns
+pub returns : goal.returns
 returns c =
-    let p = c.before.before.args.place in
-    rw (c.before.word.ensures, c.word2.ensures, paired two_over_pi (p / 32) (omega arith)) (cut two_over_pi p (search rules))
-
-pub digits_spec : {M : Type 1} → statement M
-digits_spec =
-    tie.close
-    (tie.spec
-    (λ c κs. search rules)
-    (λ c. search rules)
-    (λ c. search rules)
-    (λ c κs. search rules)
-    (λ c. search rules)
-    (λ c. search rules)
-    (λ c. search rules)
-    returns)
+    let p = c.args.place in
+    rw (c.word.ensures, c.word-2.ensures, paired two_over_pi (p / 32) (omega arith)) (cut two_over_pi p (search rules))

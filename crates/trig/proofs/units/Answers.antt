@@ -5,9 +5,7 @@ use native.Mathlib.Nat.{mul-le-mul, mod-lt}
 use native.Mathlib.Omega.{arith}
 use lib.Pow.{pow_pos, shr-shr}
 use Rattle.trig.specs.Trig.{two_over_pi, units_of}
-use borrow.Author.Rules.{rules}
-use Rattle.trig.proofs.units.Statement.{statement}
-use Rattle.trig.proofs.units.Tie as tie
+use Rattle.trig.proofs.units.Goals as goal
 
 -- ---- m times digits of 2/π, n: those before the last 64 give whole turns
 linear : (a b d : ℕ) → (b * 256 + d / 2 ^ 24 + 2 ^ 37) % 2 ^ 40 ≡ ((a * 2 ^ 64 + b * 2 ^ 32 + d) / 2 ^ 24 + 2 ^ 37) % 2 ^ 40
@@ -42,45 +40,27 @@ product b k e =
     let d = mod-lt (two_over_pi / 2 ^ k) {m = 2 ^ 32} (pow_pos 32) in
     mul-le-mul {n₂ = 16777215} {m₂ = 4294967295} (omega arith) (omega arith)
 
-mul_result : tie.Need-overflow-mul-result
-mul_result c = let p = product c.before.args.b _ c.digits.ensures in record { fits = omega arith }
+pub overflow_mul-result : goal.overflow_mul-result
+overflow_mul-result c = let p = product c.args.b _ c.digits.ensures in record { fits = omega arith }
 
-mul_result_2 : tie.Need-overflow-mul-result-2
-mul_result_2 c = let p = product c.before.args.b _ c.digits.ensures in record { fits = omega arith }
+pub overflow_mul-result-2 : goal.overflow_mul-result-2
+overflow_mul-result-2 c = let p = product c.args.b _ c.digits.ensures in record { fits = omega arith }
 
-mul_result_3 : tie.Need-overflow-mul-result-3
-mul_result_3 c = let p = product c.before.before.args.b _ c.digits2.ensures in record { fits = omega arith }
+pub overflow_mul-result-3 : goal.overflow_mul-result-3
+overflow_mul-result-3 c = let p = product c.args.b _ c.digits-2.ensures in record { fits = omega arith }
 
-add_result : tie.Need-overflow-add-result
-add_result c =
-    let p = product c.before.before.args.b _ c.before.digits.ensures in
-    let q = product c.before.before.args.b _ c.digits2.ensures in
+pub overflow_add-result : goal.overflow_add-result
+overflow_add-result c =
+    let p = product c.args.b _ c.digits.ensures in
+    let q = product c.args.b _ c.digits-2.ensures in
     record { fits = omega arith }
 
-add_result_2 : tie.Need-overflow-add-result-2
-add_result_2 c =
-    let p = product c.before.before.args.b _ c.before.digits.ensures in
-    let q = product c.before.before.args.b _ c.digits2.ensures in
+pub overflow_add-result-2 : goal.overflow_add-result-2
+overflow_add-result-2 c =
+    let p = product c.args.b _ c.digits.ensures in
+    let q = product c.args.b _ c.digits-2.ensures in
     record { fits = omega arith }
 
-returns : tie.Need-returns
+pub returns : goal.returns
 unfolding units_of
-returns c = units_are _ _ (omega arith) c.before.digits.ensures c.digits2.ensures
-
-pub units_spec : {M : Type 1} → statement M
-units_spec =
-    tie.close
-    (tie.spec
-    (λ c. search rules)
-    (λ c. search rules)
-    (λ c. search rules)
-    (λ c. search rules)
-    (λ c κs. search rules)
-    mul_result
-    mul_result_2
-    (λ c. search rules)
-    (λ c κs. search rules)
-    mul_result_3
-    add_result
-    add_result_2
-    returns)
+returns c = units_are _ _ (omega arith) c.digits.ensures c.digits-2.ensures

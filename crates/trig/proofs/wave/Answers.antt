@@ -10,9 +10,7 @@ use lib.ListN.{get_or}
 use lib.Ieee.{Float, nan, of_bits, neg}
 use Rattle.numbers.specs.Words.{signed}
 use Rattle.trig.specs.Trig.{one, minus_one, bounded_of, sin_near, cos_near, curve_of, wave_of}
-use borrow.Author.Rules.{rules}
-use Rattle.trig.proofs.wave.Statement.{statement}
-use Rattle.trig.proofs.wave.Tie as tie
+use Rattle.trig.proofs.wave.Goals as goal
 
 -- by turns sine, cosine, minus sine, minus cosine
 one_of_four : (j : ℕ) (s c : Float) → j < 4 → get_or (s ∷ c ∷ neg s ∷ neg c ∷ []) j nan ≡ signed (leb 2 j) (cond (eqb (j % 2) 0) s c)
@@ -32,18 +30,6 @@ taken k r = ap (bounded_of minus_one one)
     (one_of_four (k % 4) (sin_near r) (cos_near r) (omega arith)
     ∙ ap (λ (p : ℕ). signed (leb 2 (k % 4)) (cond (eqb p 0) (sin_near r) (cos_near r))) (parity k))
 
-returns : tie.Need-returns
+pub returns : goal.returns
 unfolding of_bits neg
-returns c = rw (c.bounded.ensures, c.before.cos-near.ensures, c.before.before.sin-near.ensures) (taken c.before.before.before.args.k c.before.before.before.args.r)
-
-pub wave_spec : {M : Type 1} → statement M
-wave_spec =
-    tie.close
-    (tie.spec
-    (λ c κs. search rules)
-    (λ c κs. search rules)
-    (λ c. search rules)
-    (λ c. search rules)
-    (λ c. search rules)
-    (λ c κs. search rules)
-    returns)
+returns c = rw (c.bounded.ensures, c.cos_near-c.ensures, c.sin_near-s.ensures) (taken c.args.k c.args.r)
