@@ -118,7 +118,7 @@ module _ (layout : Layout) (scene prefixes : List ℕ) where
       found : (k : ℕ) → k < s.turn.count → Found m s k
 
     longer : (m : ℕ) (s u : State) (k : ℕ) → slice_index u.lines (k * 6 + 1) ≡ slice_index s.lines (k * 6 + 1) → Found m s k → Found (suc m) u k
-    longer m s u k e f = record { tag = f.tag; in_call = omega (arith, f.in_call); not_before = f.not-before; by_then = f.by-then; told = e ∙ f.told }
+    longer m s u k e f = record { tag = f.tag; in_call = omega (arith, f.in_call); not_before = f.not_before; by_then = f.by_then; told = e ∙ f.told }
 
     its_word : (m tag : ℕ) → tag ≡ m % 2 ^ 64 → tag_word tag ≡ m % 2 ^ 32
     its_word m tag e = omega arith
@@ -180,4 +180,4 @@ which_tag layout scene prefixes ps ws k l =
     let n = layout.n_wg * 256 in
     let t = (done layout scene prefixes ps ws n).turn in
     let f = (after_all layout scene prefixes ps ws n).found k (rw (tells t.stop t.tag t.count) at l) in
-    record { tag = f.tag; in_call = f.in_call; not_before = f.not-before; by_then = f.by-then; told = f.told }
+    record { tag = f.tag; in_call = f.in_call; not_before = f.not_before; by_then = f.by_then; told = f.told }
