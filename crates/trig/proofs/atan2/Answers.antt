@@ -1,12 +1,13 @@
 -- `trig::atan2` meets its contract. Assumes nothing.
 use mathlib.Core.Path.{sym, ◌∙◌}
+use borrow.Author.Rules.{rules}
 use lib.Ieee.{of_bits, div}
 use Rattle.trig.specs.Trig.{atan2_of}
 use Rattle.trig.specs.Direct.{atan2_direct}
 use Rattle.trig.proofs.atan2.Goals as goal
 
 pub returns-then-r-t : goal.returns-then-r-t
-returns-then-r-t c = atan2_direct _ _ _ _ c.abs-a.ensures c.if-a-x.true c.atan_near-r.ensures c.if-r-t.true
+returns-then-r-t c = atan2_direct _ _ _ _ c.abs-a.ensures (search rules) c.atan_near-r.ensures c.if-r-t.true
 
 pub returns-then-is_nan : goal.returns-then-is_nan
 unfolding atan2_of div of_bits
