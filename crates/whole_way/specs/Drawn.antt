@@ -191,7 +191,7 @@ module _ (tags points : List ℕ) (cs : List Command) (e : Finished (left tags p
     pub placed : Placed c 2 (left tags points cs)
     placed =
         record {
-          here = record { byte = sheets.drawn-tag sheet; its_data = sheets.its_points sheet };
+          here = record { byte = sheets.drawn_tag sheet; its_data = sheets.its_points sheet };
           few = unfold size_of in omega (arith, few, offset);
         }
       where
@@ -199,7 +199,7 @@ module _ (tags points : List ℕ) (cs : List Command) (e : Finished (left tags p
         offset = let b = (sheets.begins sheet).data_base in omega (arith, b)
 
     pub in_call : 2 + (left tags points cs).pen.tags ≤ fills.tags c
-    in_call = omega (arith, sheets.all-tags sheet, sheets.enough sheet, count)
+    in_call = omega (arith, sheets.all_tags sheet, sheets.enough sheet, count)
 
     -- no path tag stands before the tag behind what was drawn
     path_bit : (i : ℕ) → i < 2 + N → bit (byte_of (tag_words c) i) 0x10 ≡ 0
@@ -211,7 +211,7 @@ module _ (tags points : List ℕ) (cs : List Command) (e : Finished (left tags p
           ]
           | no g ↦
               let j : i ≡ 2 + (i - 2) = omega (arith, g) in
-              let b = sheets.drawn-tag sheet (i - 2) (omega (arith, l, g)) in
+              let b = sheets.drawn_tag sheet (i - 2) (omega (arith, l, g)) in
               let s = (segments_all (i - 2) (omega (arith, l, g))).low in
               rw (j, b) (omega (arith, s))
         ]
@@ -242,7 +242,7 @@ module _ (tags points : List ℕ) (cs : List Command) (e : Finished (left tags p
       drawn_byte : (i : ℕ) → 2 ≤ i → i < 2 + N → IsSegment (byte_of (tag_words c) i)
       drawn_byte i g l =
           let j : 2 + (i - 2) ≡ i = omega arith in
-          let b = sheets.drawn-tag sheet (i - 2) (omega arith) in
+          let b = sheets.drawn_tag sheet (i - 2) (omega arith) in
           subst (λ (k : ℕ). IsSegment (byte_of (tag_words c) k)) j (subst IsSegment (sym b) (segments_all (i - 2) (omega arith)))
 
       low_some : (b : ℕ) → IsSegment b → eqb b 0 ≡ false
