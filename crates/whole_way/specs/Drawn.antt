@@ -122,8 +122,8 @@ module _ (c : Call) where
       let k : Each OfPath (r.first ∷ r.others) = subst (Each OfPath) r.tags h in
       (record { first = r.first; behind = r.others }, record { run = r.run; closed = r.closed; one_path = each_same r.first r.others k.0 k.1 }, r.tags)
 
-  as_outlines : (iss : List (List ℕ)) → Every (ClosedRun c) iss → Each OfPath (all_of iss) → (os : List Outline) × EachOutline (ClosedFill c) os × (all_of iss ≡ fill.tagsOf os)
-  unfolding all_of EachOutline fill.tagsOf
+  as_outlines : (iss : List (List ℕ)) → Every (ClosedRun c) iss → Each OfPath (all_of iss) → (os : List Outline) × EachOutline (ClosedFill c) os × (all_of iss ≡ fill.tags_of os)
+  unfolding all_of EachOutline fill.tags_of
   as_outlines [] none h = ([], tt, refl)
   as_outlines (is ∷ iss) (more r rs) h =
       let k = each_front OfPath is (all_of iss) h in
@@ -199,7 +199,7 @@ module _ (tags points : List ℕ) (cs : List Command) (e : Finished (left tags p
         offset = let b = (sheets.begins sheet).data_base in omega (arith, b)
 
     pub in_call : 2 + (left tags points cs).pen.tags ≤ fills.tags c
-    in_call = omega (arith, sheets.all_tags sheet, sheets.enough sheet, count)
+    in_call = omega (arith, sheets.all_tags_lem sheet, sheets.enough sheet, count)
 
     -- no path tag stands before the tag behind what was drawn
     path_bit : (i : ℕ) → i < 2 + N → bit (byte_of (tag_words c) i) 0x10 ≡ 0
