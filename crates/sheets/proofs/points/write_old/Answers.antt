@@ -31,13 +31,14 @@ pub bounds-points-i-in-loop-i : goal.bounds-points-i-in-loop-i
 bounds-points-i-in-loop-i c = omega arith
 
 pub joined-requires : goal.joined-requires
-joined-requires c = (back_at c.args.points.now _ c.requires.points_value.0 c.requires.n_in_bounds _ (omega arith), back_at c.args.points.now _ c.requires.points_value.0 c.requires.n_in_bounds _ (omega arith))
+joined-requires c =
+    record { x_value = back_at c.args.points.now _ c.requires.points_value c.requires.n_in_bounds _ (omega arith); y_value = back_at c.args.points.now _ c.requires.points_value c.requires.n_in_bounds _ (omega arith) }
 
 pub offset_bounds-out-i : goal.offset_bounds-out-i
 offset_bounds-out-i c = omega arith
 
 pub bounds-out-i : goal.bounds-out-i
-bounds-out-i c = omega (arith, narrowed_out c.loop-i.invariant c.requires.n_in_bounds c.requires.points_value.1)
+bounds-out-i c = omega (arith, narrowed_out c.loop-i.invariant c.requires.n_in_bounds c.requires.n_in_bounds_2)
 
 pub overflow_add-i-in-loop-i : goal.overflow_add-i-in-loop-i
 overflow_add-i-in-loop-i c = omega arith
@@ -46,10 +47,10 @@ pub loop-i-smaller : goal.loop-i-smaller
 loop-i-smaller c = omega arith
 
 pub loop-i-preserved : goal.loop-i-preserved
-loop-i-preserved c = narrowed_next c.loop-i.invariant c.requires.n_in_bounds c.requires.points_value.1 (omega arith) c.joined.ensures refl
+loop-i-preserved c = narrowed_next c.loop-i.invariant c.requires.n_in_bounds c.requires.n_in_bounds_2 (omega arith) c.joined.ensures refl
 
 pub shape_of-out : goal.shape_of-out
-shape_of-out c = narrowed_out c.loop-i.invariant c.requires.n_in_bounds c.requires.points_value.1
+shape_of-out c = narrowed_out c.loop-i.invariant c.requires.n_in_bounds c.requires.n_in_bounds_2
 
 pub returns : goal.returns
-returns c = narrowed_all c.loop-i.invariant c.requires.n_in_bounds c.requires.points_value.1 (omega arith)
+returns c = narrowed_all c.loop-i.invariant c.requires.n_in_bounds c.requires.n_in_bounds_2 (omega arith)

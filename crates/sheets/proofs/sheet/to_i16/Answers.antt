@@ -14,7 +14,7 @@ returns-then-at-tags c = i16_wrong c.args.tags.now c.args.points.now c.args.old_
 pub narrow-requires : goal.narrow-requires
 narrow-requires c =
     let k = sum_says c.args.tags.now (length c.args.points.now / 2) c.in-Sum.n (sym c.in-Sum.is ∙ c.total_in.ensures) in
-    (lead_all is_new c.args.tags.now c.lead_of-at.result c.lead_of-at.ensures c.if-at-tags.false, (k.0, omega (arith, k.0, k.1)))
+    record { tags_value = lead_all is_new c.args.tags.now c.lead_of-at.result c.lead_of-at.ensures c.if-at-tags.false; n_value = k.0; n_in_bounds = omega (arith, k.0, k.1) }
 
 pub returns-in-Over : goal.returns-in-Over
 returns-in-Over c =

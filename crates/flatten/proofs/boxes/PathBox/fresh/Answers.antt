@@ -2,12 +2,8 @@
 use Rattle.std.proofs.Common.{refl}
 use Rattle.drawing.specs.Sheet.{empty_box}
 use Rattle.flatten.specs.Boxes.{fresh_box}
-use Rattle.flatten.proofs.boxes.PathBox.fresh.Statement.{statement}
-use Rattle.flatten.proofs.boxes.PathBox.fresh.Tie as tie
+use Rattle.flatten.proofs.boxes.PathBox.fresh.Goals as goal
 
-returns : tie.Need-returns
+pub returns : goal.returns
 unfolding fresh_box empty_box
 returns c = refl
-
-pub fresh_spec : {M : Type 1} → statement M
-fresh_spec = tie.close (tie.spec returns)

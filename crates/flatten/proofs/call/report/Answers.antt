@@ -2,8 +2,7 @@
 use Rattle.std.proofs.Common.{◌≡◌, ℕ, ◌<◌, ◌≤◌, List, [], ◌∷◌, length, set, refl, ap, ◌∙◌, arith, rules}
 use Rattle.flatten.specs.Call.{report_of}
 use Rattle.flatten.specs.declared.call.Told.{Told}
-use Rattle.flatten.proofs.call.report.Statement.{statement}
-use Rattle.flatten.proofs.call.report.Tie as tie
+use Rattle.flatten.proofs.call.report.Goals as goal
 
 -- what stands in the lent words, by how many there are
 untouched : (ws : List ℕ) (t : Told) → length ws < 2 → ws ≡ report_of t ws
@@ -30,30 +29,20 @@ three_words (a ∷ b ∷ c ∷ ws) t h = refl
 said : (ws us : List ℕ) (t u : Told) → t ≡ u → us ≡ report_of t ws → (t.number ≡ u.number) × (us ≡ report_of u ws)
 said ws us t u e h = (ap (λ (x : Told). x.number) e, h ∙ ap (λ (x : Told). report_of x ws) e)
 
-returns : tie.Need-returns
+pub returns-then-out-lt2 : goal.returns-then-out-lt2
+returns-then-out-lt2 c =
+    let t = c.told-told in
+    let ws = c.args.out.now in
+    said ws ws t.result _ t.ensures (untouched ws t.result c.if-out-lt2.true)
+
+pub returns-then-out-lt3 : goal.returns-then-out-lt3
+returns-then-out-lt3 c =
+    let t = c.told-told in
+    let ws = c.args.out.now in
+    said ws _ t.result _ t.ensures (two_words ws t.result c.if-out-lt2.false c.if-out-lt3.true)
+
+pub returns : goal.returns
 returns c =
-    let t = c.before.told in
-    let ws = c.before.before.before.args.out.now in
-    said ws ws t.result _ t.ensures (untouched ws t.result c.if1.true)
-
-returns_2 : tie.Need-returns-2
-returns_2 c =
-    let k = c.before.before in
-    let t = k.before.told in
-    let ws = k.before.before.before.args.out.now in
-    said ws _ t.result _ t.ensures (two_words ws t.result k.if1.false c.if2.true)
-
-returns_3 : tie.Need-returns-3
-returns_3 c =
-    let k = c.before.before.before in
-    let t = k.before.told in
-    let ws = k.before.before.before.args.out.now in
-    said ws _ t.result _ t.ensures (three_words ws t.result c.before.if2.false)
-
-pub report_spec : {M : Type 1} → statement M
-report_spec =
-    tie.close
-    (tie.spec
-    (λ c κs. search rules) returns
-    (λ c. search rules) (λ c. search rules) (λ c. search rules) (λ c. search rules) returns_2
-    (λ c. search rules) (λ c. search rules) (λ c. search rules) returns_3)
+    let t = c.told-told in
+    let ws = c.args.out.now in
+    said ws _ t.result _ t.ensures (three_words ws t.result c.if-out-lt3.false)
