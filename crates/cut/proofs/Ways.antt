@@ -77,8 +77,8 @@ module _ (table : Table) (list bytes : List ℕ) where
 -- ---- the flattening
 
 module _ (layout : Layout) (table : Table) (scene prefixes lines bytes : List ℕ) where
-  module _ (b : PathBox) (fresh : b ≡ fresh_box) (rest : List PathBox) (a : flattened.Answer) (o : Told.Told) (is : o ≡ call.toldOf a) (ps : List PathBox) (ws : List ℕ)
-      (e : call.outcome (call.toldOf a) ps ws ≡ owned_of layout scene prefixes (b ∷ rest) 1 lines) where
+  module _ (b : PathBox) (fresh : b ≡ fresh_box) (rest : List PathBox) (a : flattened.Answer) (o : Told.Told) (is : o ≡ call.told_of a) (ps : List PathBox) (ws : List ℕ)
+      (e : call.outcome (call.told_of a) ps ws ≡ owned_of layout scene prefixes (b ∷ rest) 1 lines) where
     told_is : o ≡ (call_of layout scene prefixes (fresh_box ∷ []) lines).answer
     unfolding owned_of few_of
     told_is = is ∙ ap (λ (k : call.Outcome). k.answer) e ∙ ap (λ (p : PathBox). (call_of layout scene prefixes (p ∷ []) lines).answer) fresh

@@ -61,11 +61,11 @@ its_left = left its_tags its_points its_commands
 
 -- refused with 20, and three tags and eight words are written
 pub is_left : (its_left.number ≡ 20) × (its_left.tags ≡ 0x09 ∷ 0x09 ∷ 0x0d ∷ []) × (its_left.points ≡ 0 ∷ 0 ∷ 0x40400000 ∷ 0 ∷ 0 ∷ 0x40c00000 ∷ 0 ∷ 0 ∷ [])
-unfolding its_left commands.same commands.words_of commands.floatsOf commands.spots commands.target commands.tag_of commands.finishing commands.start_of commands.inkOf commands.place_of commands.ended commands.fits commands.number_of commands.written commands.inked commands.mayDraw commands.named commands.commandOf meaning.after eq_of eq of_bits round all_finite
+unfolding its_left commands.same commands.words_of commands.floats_of commands.spots commands.target commands.tag_of commands.finishing commands.start_of commands.ink_of commands.place_of commands.ended commands.fits commands.number_of commands.written commands.inked commands.may_draw commands.named commands.command_of meaning.after eq_of eq of_bits round all_finite
 is_left = (refl, refl, refl)
 
 pub its_end : Finished its_left
-unfolding its_left commands.same commands.words_of commands.floatsOf commands.spots commands.target commands.tag_of commands.finishing commands.start_of commands.inkOf commands.place_of commands.ended commands.fits commands.number_of commands.written commands.inked commands.mayDraw commands.named commands.commandOf meaning.after eq_of eq of_bits round all_finite
+unfolding its_left commands.same commands.words_of commands.floats_of commands.spots commands.target commands.tag_of commands.finishing commands.start_of commands.ink_of commands.place_of commands.ended commands.fits commands.number_of commands.written commands.inked commands.may_draw commands.named commands.command_of meaning.after eq_of eq of_bits round all_finite
 its_end = refl
 
 -- ---- the call: a transform tag and a style tag in front, a path tag behind
@@ -87,7 +87,7 @@ its_call =
 
 -- it is accepted, and stores the lines and the box of the triangle
 pub its_outcome : outcome its_call ≡ drawn
-unfolding its_call flatten of_bits of_int to_bits to_signed to_unsigned round neg add sub mul div lt le eq is_nan sign_of signed abs_of before max_of clamp_of whole_of floor_of ceil_of sqrt_of two_thirds_of hypot_of trig.boundedOf trig.sinNear trig.cosNear trig.reducedOf trig.curveOf trig.waveOf trig.sinOf trig.cosOf trig.angleOf trig.atan2Of add_of sub_of mul_of dot_of length_of length_squared_of mix_of angle_of has_nan eq_of identity_of apply_of fitted_error error_ratio long_chord from_points_derivs from_angles word_at tag_sums plus byte_at sums_below word_sums tag_data prefix_at with_prefix tag_in tag_of sums_before prefixes filled scan_of f32_point point_words point_at line_cubic point_count raised cubic_of reaches segment_of floats_at transform_of all_finite flags_of lower_of higher_of empty_box box_with has_room stored draw_on draw draw_all cubic_point cubic_deriv cubic_at is_short first_tip tip_at params_of multiplier_of integrand_of robust_of n_frac_of fit_of line_of lines_of range_of range_end tip_of is_near accepted walk is_point side_events device_side euler_events fill_events shape_events fresh_box has_extent marked_of merged_of changed_of changed_at ◌>>=◌ boxed head_at finite_only shape_at events_by events_at drawn_of change_of turn_of refused_at step_from_by step_by first_turn start_of taken onward_by after_by answer_of number_of end_of told_of call_by
+unfolding its_call flatten of_bits of_int to_bits to_signed to_unsigned round neg add sub mul div lt le eq is_nan sign_of signed abs_of before max_of clamp_of whole_of floor_of ceil_of sqrt_of two_thirds_of hypot_of trig.bounded_of trig.sin_near trig.cos_near trig.reduced_of trig.curve_of trig.wave_of trig.sin_of trig.cos_of trig.angle_of trig.atan2_of add_of sub_of mul_of dot_of length_of length_squared_of mix_of angle_of has_nan eq_of identity_of apply_of fitted_error error_ratio long_chord from_points_derivs from_angles word_at tag_sums plus byte_at sums_below word_sums tag_data prefix_at with_prefix tag_in tag_of sums_before prefixes filled scan_of f32_point point_words point_at line_cubic point_count raised cubic_of reaches segment_of floats_at transform_of all_finite flags_of lower_of higher_of empty_box box_with has_room stored draw_on draw draw_all cubic_point cubic_deriv cubic_at is_short first_tip tip_at params_of multiplier_of integrand_of robust_of n_frac_of fit_of line_of lines_of range_of range_end tip_of is_near accepted walk is_point side_events device_side euler_events fill_events shape_events fresh_box has_extent marked_of merged_of changed_of changed_at ◌>>=◌ boxed head_at finite_only shape_at events_by events_at drawn_of change_of turn_of refused_at step_from_by step_by first_turn start_of taken onward_by after_by answer_of number_of end_of told_of call_by
 its_outcome = refl
 
 pub its_acceptance : Accepted its_call
@@ -97,7 +97,7 @@ its_acceptance = record { u32 = lit< tt; count = 3; answer = ap (λ (o : Outcome
 -- ---- what the theorems ask
 
 pub is_placed : Placed its_call 2 its_left
-unfolding its_call its_left byte_of byte_at sums_to plus tag_sums commands.same commands.words_of commands.floatsOf commands.spots commands.target commands.tag_of commands.finishing commands.start_of commands.inkOf commands.place_of commands.ended commands.fits commands.number_of commands.written commands.inked commands.mayDraw commands.named commands.commandOf meaning.after eq_of eq of_bits round all_finite
+unfolding its_call its_left byte_of byte_at sums_to plus tag_sums commands.same commands.words_of commands.floats_of commands.spots commands.target commands.tag_of commands.finishing commands.start_of commands.ink_of commands.place_of commands.ended commands.fits commands.number_of commands.written commands.inked commands.may_draw commands.named commands.command_of meaning.after eq_of eq of_bits round all_finite
 is_placed = record { here = record { byte = bytes; its_data = refl }; few = lit< tt }
   where
     bytes : (j : ℕ) → j < 3 → byte_of its_scene (2 + j) ≡ get_or (0x09 ∷ 0x09 ∷ 0x0d ∷ []) j 0
@@ -117,11 +117,11 @@ is_filled = record { flags = 0; read = refl; no_stroke = refl }
 -- ---- the theorems, applied
 
 pub its_outline : Every (Watertight its_call) ((2 ∷ 3 ∷ 4 ∷ []) ∷ [])
-unfolding its_left its_call outlines tags_from meaning.meant meaning.accepted meaning.kept meaning.finished meaning.finishedBy meaning.closing meaning.end_of meaning.goesOn commands.same commands.words_of commands.floatsOf commands.spots commands.target commands.tag_of commands.finishing commands.start_of commands.inkOf commands.place_of commands.ended commands.fits commands.number_of commands.written commands.inked commands.mayDraw commands.named commands.commandOf meaning.after eq_of eq of_bits round all_finite
+unfolding its_left its_call outlines tags_from meaning.meant meaning.accepted meaning.kept meaning.finished meaning.finished_by meaning.closing meaning.end_of meaning.goes_on commands.same commands.words_of commands.floats_of commands.spots commands.target commands.tag_of commands.finishing commands.start_of commands.ink_of commands.place_of commands.ended commands.fits commands.number_of commands.written commands.inked commands.may_draw commands.named commands.command_of meaning.after eq_of eq of_bits round all_finite
 its_outline = drawn_watertight its_tags its_points its_commands its_end its_call 2 is_placed its_acceptance is_fresh is_filled (omega arith)
 
 -- three lines, the last of which closes it and ends the subpath
 pub its_pieces : decoded its_call 2 3
     ≡ piece (at 0 0 ∷ at 0x40400000 0 ∷ []) false ∷ piece (at 0x40400000 0 ∷ at 0 0x40c00000 ∷ []) false ∷ piece (at 0 0x40c00000 ∷ at 0 0 ∷ []) true ∷ []
-unfolding is_fresh its_left its_call pieces pieces_from meaning.meant meaning.accepted meaning.kept meaning.finished meaning.finishedBy meaning.closing meaning.end_of meaning.goesOn commands.same commands.words_of commands.floatsOf commands.spots commands.target commands.tag_of commands.finishing commands.start_of commands.inkOf commands.place_of commands.ended commands.fits commands.number_of commands.written commands.inked commands.mayDraw commands.named commands.commandOf meaning.after eq_of eq of_bits round all_finite
+unfolding is_fresh its_left its_call pieces pieces_from meaning.meant meaning.accepted meaning.kept meaning.finished meaning.finished_by meaning.closing meaning.end_of meaning.goes_on commands.same commands.words_of commands.floats_of commands.spots commands.target commands.tag_of commands.finishing commands.start_of commands.ink_of commands.place_of commands.ended commands.fits commands.number_of commands.written commands.inked commands.may_draw commands.named commands.command_of meaning.after eq_of eq of_bits round all_finite
 its_pieces = decodes its_tags its_points its_commands its_end its_call 2 is_placed is_fresh (record { words = omega arith; prefixes = omega arith })

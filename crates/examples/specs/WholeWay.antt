@@ -85,7 +85,7 @@ file = 73 ∷ 78 ∷ 59 ∷ 80 ∷ 85 ∷ 48 ∷ 44 ∷ 48 ∷ 59 ∷ 80 ∷ 68 
 -- the file with the three bytes behind it as lent; with a byte too few; with a shear
 computed : ((way unit 30).behind.answer ≡ Whole 27) × ((way unit 30).behind.bytes ≡ file ++ replicate 3 255)
     × ((way unit 26).behind.answer ≡ Refused Export 31 2) × ((way shear 30).behind.answer ≡ Refused Profile 73 2)
-unfolding cut_of sheet_stage laid_by scan_stage profile_stage flatten_stage export_stage size_of size_told fits lay_of layout_by sheet_of tag_words groups packed tag_word tag_bytes import.reportOf import.importOf import.importFrom svg.all_of symbols runs to_bits decimal_of commands.same commands.words_of commands.floatsOf commands.spots commands.target commands.tag_of commands.finishing commands.start_of commands.inkOf commands.place_of commands.ended commands.fits commands.number_of commands.written commands.inked commands.mayDraw commands.named commands.commandOf profile.first profile.unreadOr profile.againstOr profile.startedBy profile.rulesOf profile.profileOf profile.number_of profile.toldOf rest_by read_at once rules.head_or rules.head_of rules.sixAt rules.same_words rules.is_zero rules.straight rules.alignedTo rules.point_of rules.segments rules.subpaths rules.open_at rules.beginning rules.leading rules.factsAt rules.broken70 rules.broken71 rules.broken72 rules.broken73 rules.broken74 rules.broken75 rules.unless rules.ruleOf export.cutReport export.look_of export.answer_of export.export_of export.exportFrom export.putLine export.put export.goesOn form.command form.range_of numeral decimal digits rounding.point_of rounding.roundedOf rounding.isGood rounding.isWithin signed_of flatten of_bits of_int to_signed to_unsigned round neg add sub mul div lt le eq is_nan sign_of signed abs_of before max_of clamp_of whole_of floor_of ceil_of sqrt_of two_thirds_of hypot_of trig.boundedOf trig.sinNear trig.cosNear trig.reducedOf trig.curveOf trig.waveOf trig.sinOf trig.cosOf trig.angleOf trig.atan2Of add_of sub_of mul_of dot_of length_of length_squared_of mix_of angle_of has_nan eq_of identity_of apply_of fitted_error error_ratio long_chord from_points_derivs from_angles word_at tag_sums plus byte_at sums_below word_sums tag_data prefix_at with_prefix tag_in tag_of sums_before tag.prefixes filled scan_of f32_point point_words point_at line_cubic point_count raised cubic_of reaches segment_of floats_at transform_of all_finite flags_of lower_of higher_of empty_box box_with has_room stored draw_on draw draw_all cubic_point cubic_deriv cubic_at is_short first_tip tip_at params_of multiplier_of integrand_of robust_of n_frac_of fit_of line_of lines_of range_of range_end tip_of is_near accepted walk is_point side_events device_side euler_events fill_events shape_events fresh_box has_extent marked_of merged_of changed_of changed_at ◌>>=◌ boxed head_at finite_only shape_at events_by events_at drawn_of change_of turn_of refused_at step_from_by step_by first_turn start_of taken onward_by after_by answer_of number_of end_of told_of call_by
+unfolding cut_of sheet_stage laid_by scan_stage profile_stage flatten_stage export_stage size_of size_told fits lay_of layout_by sheet_of tag_words groups packed tag_word tag_bytes import.report_of import.import_of import.import_from svg.all_of symbols runs to_bits decimal_of commands.same commands.words_of commands.floats_of commands.spots commands.target commands.tag_of commands.finishing commands.start_of commands.ink_of commands.place_of commands.ended commands.fits commands.number_of commands.written commands.inked commands.may_draw commands.named commands.command_of profile.first profile.unread_or profile.against_or profile.started_by profile.rules_of profile.profile_of profile.number_of profile.told_of rest_by read_at once rules.head_or rules.head_of rules.six_at rules.same_words rules.is_zero rules.straight rules.aligned_to rules.point_of rules.segments rules.subpaths rules.open_at rules.beginning rules.leading rules.facts_at rules.broken70 rules.broken71 rules.broken72 rules.broken73 rules.broken74 rules.broken75 rules.unless rules.rule_of export.cut_report export.look_of export.answer_of export.export_of export.export_from export.put_line export.put export.goes_on form.command form.range_of numeral decimal digits rounding.point_of rounding.rounded_of rounding.is_good rounding.is_within signed_of flatten of_bits of_int to_signed to_unsigned round neg add sub mul div lt le eq is_nan sign_of signed abs_of before max_of clamp_of whole_of floor_of ceil_of sqrt_of two_thirds_of hypot_of trig.bounded_of trig.sin_near trig.cos_near trig.reduced_of trig.curve_of trig.wave_of trig.sin_of trig.cos_of trig.angle_of trig.atan2_of add_of sub_of mul_of dot_of length_of length_squared_of mix_of angle_of has_nan eq_of identity_of apply_of fitted_error error_ratio long_chord from_points_derivs from_angles word_at tag_sums plus byte_at sums_below word_sums tag_data prefix_at with_prefix tag_in tag_of sums_before tag.prefixes filled scan_of f32_point point_words point_at line_cubic point_count raised cubic_of reaches segment_of floats_at transform_of all_finite flags_of lower_of higher_of empty_box box_with has_room stored draw_on draw draw_all cubic_point cubic_deriv cubic_at is_short first_tip tip_at params_of multiplier_of integrand_of robust_of n_frac_of fit_of line_of lines_of range_of range_end tip_of is_near accepted walk is_point side_events device_side euler_events fill_events shape_events fresh_box has_extent marked_of merged_of changed_of changed_at ◌>>=◌ boxed head_at finite_only shape_at events_by events_at drawn_of change_of turn_of refused_at step_from_by step_by first_turn start_of taken onward_by after_by answer_of number_of end_of told_of call_by
 computed = (refl, refl, refl, refl)
 
 -- the text is accepted, and its file has 27 bytes
@@ -141,7 +141,7 @@ abbrev pub three : List form.Line
 three = record { from = at 0 0; to = at 3 0 } ∷ record { from = at 3 0; to = at 0 6 } ∷ record { from = at 0 6; to = at 0 0 } ∷ []
 
 flat : cut_lines (six_of unit) spelled ≡ three
-unfolding rounded flattened drawn_along drawn_by cubic_from svg.meaning svg.drawnFrom meaning.meant meaning.goesOn meaning.finished meaning.finishedBy meaning.closing meaning.end_of commands.same commands.target to_bits decimal_of rounding.point_of rounding.roundedOf signed_of flatten of_bits of_int to_signed to_unsigned round neg add sub mul div lt le eq is_nan sign_of signed abs_of before max_of clamp_of whole_of floor_of ceil_of sqrt_of two_thirds_of hypot_of trig.boundedOf trig.sinNear trig.cosNear trig.reducedOf trig.curveOf trig.waveOf trig.sinOf trig.cosOf trig.angleOf trig.atan2Of add_of sub_of mul_of dot_of length_of length_squared_of mix_of angle_of has_nan eq_of identity_of apply_of fitted_error error_ratio long_chord from_points_derivs from_angles line_cubic floats_at cubic_point cubic_deriv cubic_at is_short first_tip tip_at params_of multiplier_of integrand_of robust_of n_frac_of fit_of line_of lines_of range_of range_end tip_of is_near accepted walk is_point side_events device_side euler_events fill_events
+unfolding rounded flattened drawn_along drawn_by cubic_from svg.meaning svg.drawn_from meaning.meant meaning.goes_on meaning.finished meaning.finished_by meaning.closing meaning.end_of commands.same commands.target to_bits decimal_of rounding.point_of rounding.rounded_of signed_of flatten of_bits of_int to_signed to_unsigned round neg add sub mul div lt le eq is_nan sign_of signed abs_of before max_of clamp_of whole_of floor_of ceil_of sqrt_of two_thirds_of hypot_of trig.bounded_of trig.sin_near trig.cos_near trig.reduced_of trig.curve_of trig.wave_of trig.sin_of trig.cos_of trig.angle_of trig.atan2_of add_of sub_of mul_of dot_of length_of length_squared_of mix_of angle_of has_nan eq_of identity_of apply_of fitted_error error_ratio long_chord from_points_derivs from_angles line_cubic floats_at cubic_point cubic_deriv cubic_at is_short first_tip tip_at params_of multiplier_of integrand_of robust_of n_frac_of fit_of line_of lines_of range_of range_end tip_of is_near accepted walk is_point side_events device_side euler_events fill_events
 flat = refl
 
 -- the knife draws these three lines, in the drawing's order, and no other

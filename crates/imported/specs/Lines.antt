@@ -68,7 +68,7 @@ module _ (bs tags points : List ℕ) (read : (import_of bs fresh_pen tags points
 
   number_zero : (left tags points ms).number ≡ 0
   unfolding ms number_of
-  number_zero = ap (λ (x : Outcome). x.number) (sym (all_after ms (fresh tags points) refl its.none-refused)) ∙ its.none-refused
+  number_zero = ap (λ (x : Outcome). x.number) (sym (all_after ms (fresh tags points) refl its.none_refused)) ∙ its.none_refused
 
   left_is : imported_by bs tags points ≡ left tags points ms
   unfolding ms number_of
@@ -84,4 +84,4 @@ module _ (bs tags points : List ℕ) (read : (import_of bs fresh_pen tags points
     imported_watertight =
         let w = drawn_watertight tags points ms (meaning_finishes its.commands (fresh tags points) number_zero) c at (subst (λ (o : Outcome). Placed c at o) left_is placed) a f fill
         (subst (λ (o : Outcome). at + o.pen.tags ≤ fills.tags c) left_is in_call) in
-        subst (λ (cs : List Command). Every (Watertight c) (outlines at (meant nothing cs))) (all_kept ms (fresh tags points) refl its.none-refused) w
+        subst (λ (cs : List Command). Every (Watertight c) (outlines at (meant nothing cs))) (all_kept ms (fresh tags points) refl its.none_refused) w

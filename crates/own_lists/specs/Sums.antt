@@ -2,7 +2,7 @@
 use Prim.Native.Nat.{ℕ, zero, suc, ◌+◌, ◌*◌, ◌≤◌, ◌<◌}
 use Rattle.std.specs.Prelude.{◌≡◌, ◌⊎◌, Bool, true, false, eqb}
 use Rattle.std.proofs.Math.Path.{refl, ap}
-use Rattle.std.proofs.Common.{sym, ◌∙◌, inl, inr, arith, eq-eqb, ne_eqb}
+use Rattle.std.proofs.Common.{sym, ◌∙◌, subst, inl, inr, arith, eq-eqb, ne_eqb}
 use mathlib.Core.List.{List, [], ◌∷◌}
 use Rattle.std.proofs.Math.Decide.{ℕ_discrete}
 use Rattle.records.specs.Record.{once}
@@ -46,7 +46,7 @@ module _ (g : ℕ → ℕ) where
   one_more_lem j h zero l = absurd (omega arith)
   one_more_lem j h (suc n) l =
       elim (ℕ_discrete j n) [
-        | yes e ↦ rw e (omega (arith, past n h n (omega arith), same n h))
+        | yes e ↦ subst (λ (k : ℕ). sum_to (with k h) (suc n) ≡ g k + sum_to (λ i. h i * g i) (suc n)) (sym e) (omega (arith, past n h n (omega arith), same n h))
         | no ne ↦ omega (arith, one_more_lem j h n (omega (arith, ne)), other j n h ne)
       ]
 

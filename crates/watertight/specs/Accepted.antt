@@ -90,10 +90,10 @@ module _ (c : Call) where
 
   module _ (k : ℕ) (s : State) (w : Went k s) (o : Stepped) (g : Goes c.layout c.scene c.prefixes s.lines (length s.boxes) s.turn o) where
     read : read_head c k ≡ found g.head
-    read = rw (w.boxes, w.tag) at g.is-head
+    read = rw (w.boxes, w.tag) at g.is_head
 
     drew : read_events c k g.head ≡ found g.events
-    drew = rw w.tag at g.is-events
+    drew = rw w.tag at g.is_events
 
     is_head : g.head ≡ head_of c k
     is_head = head_is k g.head read

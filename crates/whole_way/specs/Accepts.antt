@@ -110,16 +110,16 @@ module _ (text : List ℕ) (z : Six) (table : Table) (tags points scene prefixes
         transform_tag = sheets.transform_tag sheet;
         style_tag = sheets.style_tag sheet;
         drawn = drawn.placed tags points (meaning commands) finishes six scene prefixes lines refl k.few;
-        path_tag = subst (λ (m : ℕ). byte_of (placing.tagWords its) (2 + m) ≡ 0x10) count (sheets.path_tag sheet);
-        nothing_more = subst (λ (m : ℕ). (i : ℕ) → 2 + m < i → i < fills.tags its → byte_of (placing.tagWords its) i ≡ 0) count (sheets.nothing_more sheet);
-        in_call = omega (arith, sheets.all-tags sheet, sheets.enough sheet, count);
+        path_tag = subst (λ (m : ℕ). byte_of (placing.tag_words its) (2 + m) ≡ 0x10) count (sheets.path_tag sheet);
+        nothing_more = subst (λ (m : ℕ). (i : ℕ) → 2 + m < i → i < fills.tags its → byte_of (placing.tag_words its) i ≡ 0) count (sheets.nothing_more sheet);
+        in_call = omega (arith, sheets.all_tags_lem sheet, sheets.enough sheet, count);
         few = omega (arith, k.segments, count);
         fill = sheets.fill sheet;
         nonzero = sheets.nonzero sheet;
         flags_before = get_or (six ++ fill_style) 4 0;
         before_styles = sheets.before_styles sheet;
-        there = sheets.transform-there sheet;
-        no_shear = sheets.same-shear sheet ∙ k.no_shear;
+        there = sheets.transform_there sheet;
+        no_shear = sheets.same_shear sheet ∙ k.no_shear;
       }
 
   profile_passes : (told_of (profile_of (given its.layout its.scene its.prefixes))).number ≡ 0

@@ -122,8 +122,8 @@ module _ (c : Call) where
       let k : Each OfPath (r.first ∷ r.others) = subst (Each OfPath) r.tags h in
       (record { first = r.first; behind = r.others }, record { run = r.run; closed = r.closed; one_path = each_same r.first r.others k.0 k.1 }, r.tags)
 
-  as_outlines : (iss : List (List ℕ)) → Every (ClosedRun c) iss → Each OfPath (all_of iss) → (os : List Outline) × EachOutline (ClosedFill c) os × (all_of iss ≡ fill.tagsOf os)
-  unfolding all_of EachOutline fill.tagsOf
+  as_outlines : (iss : List (List ℕ)) → Every (ClosedRun c) iss → Each OfPath (all_of iss) → (os : List Outline) × EachOutline (ClosedFill c) os × (all_of iss ≡ fill.tags_of os)
+  unfolding all_of EachOutline fill.tags_of
   as_outlines [] none h = ([], tt, refl)
   as_outlines (is ∷ iss) (more r rs) h =
       let k = each_front OfPath is (all_of iss) h in
@@ -191,7 +191,7 @@ module _ (tags points : List ℕ) (cs : List Command) (e : Finished (left tags p
     pub placed : Placed c 2 (left tags points cs)
     placed =
         record {
-          here = record { byte = sheets.drawn-tag sheet; its_data = sheets.its_points sheet };
+          here = record { byte = sheets.drawn_tag sheet; its_data = sheets.its_points sheet };
           few = unfold size_of in omega (arith, few, offset);
         }
       where
@@ -199,7 +199,7 @@ module _ (tags points : List ℕ) (cs : List Command) (e : Finished (left tags p
         offset = let b = (sheets.begins sheet).data_base in omega (arith, b)
 
     pub in_call : 2 + (left tags points cs).pen.tags ≤ fills.tags c
-    in_call = omega (arith, sheets.all-tags sheet, sheets.enough sheet, count)
+    in_call = omega (arith, sheets.all_tags_lem sheet, sheets.enough sheet, count)
 
     -- no path tag stands before the tag behind what was drawn
     path_bit : (i : ℕ) → i < 2 + N → bit (byte_of (tag_words c) i) 0x10 ≡ 0
@@ -211,7 +211,7 @@ module _ (tags points : List ℕ) (cs : List Command) (e : Finished (left tags p
           ]
           | no g ↦
               let j : i ≡ 2 + (i - 2) = omega (arith, g) in
-              let b = sheets.drawn-tag sheet (i - 2) (omega (arith, l, g)) in
+              let b = sheets.drawn_tag sheet (i - 2) (omega (arith, l, g)) in
               let s = (segments_all (i - 2) (omega (arith, l, g))).low in
               rw (j, b) (omega (arith, s))
         ]
@@ -242,7 +242,7 @@ module _ (tags points : List ℕ) (cs : List Command) (e : Finished (left tags p
       drawn_byte : (i : ℕ) → 2 ≤ i → i < 2 + N → IsSegment (byte_of (tag_words c) i)
       drawn_byte i g l =
           let j : 2 + (i - 2) ≡ i = omega arith in
-          let b = sheets.drawn-tag sheet (i - 2) (omega arith) in
+          let b = sheets.drawn_tag sheet (i - 2) (omega arith) in
           subst (λ (k : ℕ). IsSegment (byte_of (tag_words c) k)) j (subst IsSegment (sym b) (segments_all (i - 2) (omega arith)))
 
       low_some : (b : ℕ) → IsSegment b → eqb b 0 ≡ false

@@ -54,7 +54,7 @@ module _ {drawn points six scene prefixes lines : List ℕ} (s : Sound drawn poi
   sheet_word k l = get_or-append (sheet_of drawn points six) rest 0 k (omega (arith, l, length_sheet drawn points six s.six_long))
 
   -- tag i of the call
-  pub tag_byte_lem : (i : ℕ) → i < W * 4 → byte_of (placing.tagWords c) i ≡ get_or (tag_bytes drawn) i 0
+  pub tag_byte_lem : (i : ℕ) → i < W * 4 → byte_of (placing.tag_words c) i ≡ get_or (tag_bytes drawn) i 0
   unfolding sheet_call layout_by byte_of tag_word size_of
   tag_byte_lem i l =
       let k : i / 4 < W = omega arith in
@@ -73,21 +73,21 @@ module _ {drawn points six scene prefixes lines : List ℕ} (s : Sound drawn poi
   unfolding tag_words groups
   enough = omega arith
 
-  pub transform_tag : byte_of (placing.tagWords c) 0 ≡ 0x20
+  pub transform_tag : byte_of (placing.tag_words c) 0 ≡ 0x20
   unfolding tag_bytes
   transform_tag = tag_byte_lem 0 (omega (arith, enough))
 
-  pub style_tag : byte_of (placing.tagWords c) 1 ≡ 0x40
+  pub style_tag : byte_of (placing.tag_words c) 1 ≡ 0x40
   unfolding tag_bytes
   style_tag = tag_byte_lem 1 (omega (arith, enough))
 
-  pub drawn_tag : (j : ℕ) → j < length drawn → byte_of (placing.tagWords c) (2 + j) ≡ get_or drawn j 0
+  pub drawn_tag : (j : ℕ) → j < length drawn → byte_of (placing.tag_words c) (2 + j) ≡ get_or drawn j 0
   drawn_tag j l = tag_byte_lem (2 + j) (omega (arith, enough)) ∙ drawn_byte drawn (2 + j) j (omega arith) l
 
-  pub path_tag : byte_of (placing.tagWords c) (2 + length drawn) ≡ 0x10
+  pub path_tag : byte_of (placing.tag_words c) (2 + length drawn) ≡ 0x10
   path_tag = tag_byte_lem (2 + length drawn) (omega (arith, enough)) ∙ path_byte drawn (2 + length drawn) (omega arith)
 
-  pub nothing_more : (i : ℕ) → 2 + length drawn < i → i < tags c → byte_of (placing.tagWords c) i ≡ 0
+  pub nothing_more : (i : ℕ) → 2 + length drawn < i → i < tags c → byte_of (placing.tag_words c) i ≡ 0
   nothing_more i a l = tag_byte_lem i (omega (arith, l, all_tags_lem)) ∙ no_byte drawn i (omega arith)
 
   pub begins : Begins c

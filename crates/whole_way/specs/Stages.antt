@@ -69,8 +69,8 @@ module _ (table : Table) (list bytes : List ℕ) (n : ℕ) where
 
 -- ---- all of them
 
-lines_said : (x : answers.Answer) → (call.toldOf x).number ≡ 0 → call.toldOf x ≡ said 0 0 (call.toldOf x).count
-unfolding call.toldOf
+lines_said : (x : answers.Answer) → (call.told_of x).number ≡ 0 → call.told_of x ≡ said 0 0 (call.told_of x).count
+unfolding call.told_of
 lines_said (Lines k) e = refl
 lines_said (Stopped why tag k) e = absurd (number_some why e)
 

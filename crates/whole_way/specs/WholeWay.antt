@@ -92,13 +92,13 @@ module _ (tags points : List ℕ) (cs : List Command) (e : Finished (left tags p
   drawn_lines =
       let few = k.few in
       let sheet = drawn.sheet tags points cs e six scene prefixes lines six_long few in
-      ap (lines_of c) (drawn.segments-are tags points cs e six scene prefixes lines six_long few a ∙ ap (tags_from 2) (drawn.count tags points cs e six scene prefixes lines six_long))
+      ap (lines_of c) (drawn.segments_are tags points cs e six scene prefixes lines six_long few a ∙ ap (tags_from 2) (drawn.count tags points cs e six scene prefixes lines six_long))
       ∙ lines_drawn tags points cs e c 2 (drawn.placed tags points cs e six scene prefixes lines six_long few) a (sheets.fresh sheet) (sheets.fill sheet) (drawn.in_call tags points cs e six scene prefixes lines six_long few)
-      ∙ ap (λ (z : List ℕ). flattened z (subpaths tags points cs)) (sheets.its-transform sheet)
+      ∙ ap (λ (z : List ℕ). flattened z (subpaths tags points cs)) (sheets.its_transform sheet)
 
   the_chains : (ds : List Chain) × (its_bytes ≡ file_text ds) × (rounded_lines 0 list ≡ chainLines ds) × AllClosed ds
   the_chains =
-      chains_close (range_of table) c a 0 (drawn.closed-in-order tags points cs e six scene prefixes lines six_long k.few a) room
+      chains_close (range_of table) c a 0 (drawn.closed_in_order tags points cs e six scene prefixes lines six_long k.few a) room
       (look_written table 0 list n room looked)
 
   pub promised : (file : List ℕ) → file ≡ its_bytes ++ drop n bytes → (text : List ℕ) (commands : List Svg) → Means text commands → subpaths tags points cs ≡ subpaths_of commands → Promise text six table bytes file n
@@ -137,11 +137,11 @@ whole_way text z table tags points scene prefixes lines bytes n e =
     let i = accepted_text fresh_pen tags points text w.read in
     let ms = meaning i.commands in
     let file = (cut_of text (six_of z) table tags points scene prefixes lines bytes).behind.bytes in
-    let zero : (left tags points ms).number ≡ 0 = ap (λ (o : Outcome). o.number) (sym (all_after ms (fresh tags points) refl i.none-refused)) ∙ i.none-refused in
+    let zero : (left tags points ms).number ≡ 0 = ap (λ (o : Outcome). o.number) (sym (all_after ms (fresh tags points) refl i.none_refused)) ∙ i.none_refused in
     let its_tags : drawn_tags_lem text tags points ≡ drawn_tags (left tags points ms) = ap (λ (t : Told). take t.pen.tags t.tags) i.drawn in
     let its_points : drawn_words text tags points ≡ drawn_points (left tags points ms) = ap (λ (t : Told). take t.pen.points t.points) i.drawn in
     let list : List ℕ → List ℕ → List ℕ = λ d u. let o = outcome (sheet_call d u (six_of z) scene prefixes lines) in take (o.answer.count * 6) o.lines in
     let Stands : List ℕ → List ℕ → Type 0 = λ d u. Accept d u (six_of z) table scene prefixes lines bytes n × (file ≡ (export_of (range_of table) 0 (length bytes) (list d u)).bytes ++ drop n bytes) in
     let g = subst (Stands (drawn_tags (left tags points ms))) its_points (subst (λ (d : List ℕ). Stands d (drawn_words text tags points)) its_tags (w.accept, w.file)) in
     promised tags points ms (meaning_finishes i.commands (fresh tags points) zero) (six_of z) refl table scene prefixes lines bytes n g.0 file g.1 text i.commands i.means
-    (ap (meant nothing) (all_kept ms (fresh tags points) refl i.none-refused))
+    (ap (meant nothing) (all_kept ms (fresh tags points) refl i.none_refused))

@@ -1,0 +1,15 @@
+-- `curve::range_lines` meets its contract: what is left to draw comes to the same. Assumes nothing.
+use Prim.Native.Nat.{◌-◌}
+use mathlib.Core.Path.{sym, ◌∙◌}
+use native.Mathlib.Omega.{arith}
+use Rattle.drawing.specs.PageLaws.{Left, begin, turn, done, halts, as_many}
+use Rattle.curve.specs.Curve.{lines_of}
+use Rattle.curve.proofs.Lines.{lines_turn, lines_last}
+use Rattle.curve.proofs.range_lines.Given as goal
+
+abbrev pub invariant-loop-i : goal.invariant-loop-i
+invariant-loop-i l =
+    Left l.path l.initial.lines l.initial.so (lines_of l.side l.fit (l.n - 1) 1 l.initial.lp0 l.end) l.lines l.so (lines_of l.side l.fit (l.n - l.i) l.i l.lp0 l.end)
+
+abbrev pub decreases-loop-i : goal.decreases-loop-i
+decreases-loop-i l = l.n - l.i

@@ -1,0 +1,23 @@
+-- `curve::walk_side` meets its contract: the loop stands at a place of the tree, and what is left there comes to the same.
+-- The measure is at most 131,071 at the start and falls at every turn, so there are at most as many turns. Assumes nothing.
+use mathlib.Core.Path.{sym, ◌∙◌}
+use mathlib.Core.List.{List, flatten}
+use Prim.Native.Nat.{ℕ, ◌≤◌, ◌<◌}
+use native.Mathlib.Nat.{le_of_eq}
+use native.Mathlib.Omega.{arith}
+use lib.Ieee.{of_bits, round}
+use Rattle.drawing.specs.Sheet.{Event}
+use Rattle.drawing.specs.PageLaws.{Left, begin, nothing, turn, done, halts, as_many}
+use Rattle.curve.specs.Curve.{front_of, walk}
+use Rattle.curve.proofs.Walk.{Here, here_start, left, left_start, small, at_end, below, few_zeros, next, next_less, taken, half, half_less}
+use Rattle.curve.proofs.walk_side.Given as goal
+
+abbrev pub invariant-loop-side : goal.invariant-loop-side
+invariant-loop-side l =
+    (es : List Event)
+    × Left l.path l.initial.lines l.initial.so (flatten (walk l.side 16 0 (front_of l.initial.last l.initial.lp0)).ranges) l.lines l.so es
+    × Here l.side es l.t0_u l.dt (front_of l.last l.lp0)
+    × (left l.t0_u l.dt ≤ 131071)
+
+abbrev pub decreases-loop-side : goal.decreases-loop-side
+decreases-loop-side l = left l.t0_u l.dt

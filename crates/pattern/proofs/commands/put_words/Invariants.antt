@@ -1,0 +1,15 @@
+-- `pattern::commands::put_words` meets its contract: after k turns the first k words are set. Assumes nothing.
+use Prim.Native.Nat.{ℕ, suc, ◌+◌, ◌-◌, ◌%◌, ◌<◌, ◌≤◌}
+use mathlib.Core.Path.{◌≡◌, refl}
+use mathlib.Core.List.{List}
+use native.Mathlib.Omega.{arith}
+use lib.ListN.{length, get_or, set, take, length-set}
+use lib.Seq.{sets, length-sets}
+use Rattle.pattern.proofs.Laws.{one_put}
+use Rattle.pattern.proofs.commands.put_words.Given as goal
+
+abbrev pub invariant-loop-k : goal.invariant-loop-k
+invariant-loop-k l = (l.k ≤ l.n) × (l.k % 2 ≡ 0) × (l.points ≡ sets l.initial.points l.at (take l.k l.words))
+
+abbrev pub decreases-loop-k : goal.decreases-loop-k
+decreases-loop-k l = l.n - l.k

@@ -1,0 +1,12 @@
+-- `pattern::commands::quad_to` meets its contract. Assumes nothing.
+use mathlib.Core.Path.{◌∙◌}
+use borrow.Author.Rules.{rules}
+use Rattle.pattern.specs.Commands.{words_of, quad, spots, target, tag_of}
+use Rattle.pattern.specs.Drawn.{drawn_is}
+use Rattle.pattern.proofs.commands.quad_to.Goals as goal
+
+pub returns : goal.returns
+unfolding words_of spots target tag_of
+returns c =
+    let a = c.args in
+    c.segment.ensures ∙ drawn_is a.pen (quad a.by a.to) a.tags.now a.points.now

@@ -1,0 +1,6 @@
+-- `sheets::points::joined` meets its contract. Assumes nothing.
+use borrow.Author.Rules.{rules}
+use Rattle.sheets.proofs.points.joined.Goals as goal
+
+pub returns : goal.returns
+returns c = rw (c.half_of-low.ensures c.requires.x_value, c.half_of-high.ensures c.requires.y_value)

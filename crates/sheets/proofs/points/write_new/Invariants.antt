@@ -1,0 +1,13 @@
+-- `sheets::points::write_new` meets its contract. Assumes nothing.
+use Prim.Native.Nat.{◌≤◌, ◌-◌, ◌+◌}
+use mathlib.Core.Path.{◌≡◌, refl, sym, ◌∙◌, ap}
+use native.Mathlib.Omega.{arith}
+use lib.ListN.{length, drop, get_or, length-set}
+use Rattle.sheets.proofs.Laws.{Widened, widened_none, widened_out, widened_next, widened_all}
+use Rattle.sheets.proofs.points.write_new.Given as goal
+
+abbrev pub invariant-loop-i : goal.invariant-loop-i
+invariant-loop-i l = Widened l.points l.n l.initial.out l.out l.i
+
+abbrev pub decreases-loop-i : goal.decreases-loop-i
+decreases-loop-i l = l.n - l.i

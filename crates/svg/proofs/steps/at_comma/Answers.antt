@@ -1,0 +1,11 @@
+-- `svg::steps::at_comma` meets its contract. Assumes nothing.
+use mathlib.Core.Path.{sym, ◌∙◌}
+use borrow.Author.Rules.{rules}
+use Rattle.svg.proofs.Places.{comma_white, comma_other}
+use Rattle.svg.proofs.steps.at_comma.Goals as goal
+
+pub returns-then-is_white : goal.returns-then-is_white
+returns-then-is_white c = let a = c.args in comma_white a.k a.h a.m a.i a.y (sym c.is_white.ensures ∙ c.if-is_white.true)
+
+pub returns : goal.returns
+returns c = let a = c.args in c.opens.ensures ∙ comma_other a.k a.h a.m a.i a.y (sym c.is_white.ensures ∙ c.if-is_white.false)
