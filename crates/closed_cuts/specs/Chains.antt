@@ -25,7 +25,7 @@ use Rattle.watertight.specs.Accepted.{records_at, done}
 use Rattle.watertight.specs.Stored.{place}
 use Rattle.watertight.specs.Watertight.{one_chain}
 use Rattle.own_lists.specs.Fills.{list_of, Outline, ClosedFill, EachOutline, tags_of}
-use Rattle.own_lists.specs.Pass.{records}
+use Rattle.own_lists.proofs.Pass.{records}
 use Rattle.hpgl.specs.Text.{pick}
 use Rattle.hpgl.specs.Form.{file_text, Line, AllClosed, Range}
 use Rattle.hpgl.specs.Form.{lines_of as chainLines, Chain as Cut}

@@ -14,7 +14,7 @@ use Rattle.watertight.specs.Fill.{head_or, head_of, path_at, drawn_at, Each}
 use Rattle.own_lists.specs.Fills.{list_of, EachOutline, tags_of, times, OnlyClosedFills}
 use Rattle.own_lists.specs.Sums.{sum_over, Below}
 use Rattle.own_lists.specs.Enough.{nothing_more}
-use Rattle.own_lists.specs.Pass.{own_fills_pass}
+use Rattle.own_lists.proofs.Pass.{own_fills_pass}
 use Rattle.examples.specs.Table.{its_call, drawn, as_many}
 use Rattle.examples.specs.Triangle.{its_outcome, its_acceptance, its_run, its_end}
 

@@ -1,4 +1,3 @@
 pub mod Fills
 pub mod Sums
-pub mod Pass
 pub mod Enough

@@ -1,2 +1,2 @@
-// The shop's own lists pass the check: see specs/. There is no code here.
+// The shop's own lists pass the check: see specs/ and proofs/. There is no code here.
 #![tactic(auto)]
