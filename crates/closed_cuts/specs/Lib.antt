@@ -1,4 +1,2 @@
 pub mod Closed
-pub mod Cuts
 pub mod Chains
-pub mod Balance

@@ -1,2 +1,2 @@
-// A closed outline is a closed cut: see specs/. No code.
+// A closed outline is a closed cut: see specs/ and proofs/. No code.
 #![tactic(auto)]

@@ -13,7 +13,7 @@ use Rattle.hpgl.specs.Export.{Exported, exported, written, put, goes_on, put_lin
 use Rattle.hpgl.specs.RoundTrip.{is_written}
 use Rattle.hpgl.specs.declared.Point.{Point}
 use Rattle.closed_cuts.specs.Closed.{starts_at, ends_at}
-use Rattle.closed_cuts.specs.Cuts.{each_path, closed_cut}
+use Rattle.closed_cuts.proofs.Cuts.{each_path, closed_cut}
 use Rattle.examples.specs.Table.{its_call, drawn}
 use Rattle.examples.specs.Triangle.{its_outcome, its_acceptance}
 use Rattle.examples.specs.Passes.{its_fills}

@@ -1,6 +1,6 @@
 -- A closed outline is a closed cut: the theorem. What it speaks of is defined in Closed.antt. Assumes nothing.
 use Prim.Native.Nat.{ℕ, zero, suc, ◌+◌, ◌≤◌}
-use Rattle.std.specs.Prelude.{◌≡◌, ◌⊎◌, Bool, ◌&&◌, List, [], ◌∷◌, T, eqb, length}
+use Rattle.std.specs.Prelude.{◌≡◌, Bool, ◌&&◌, List, [], ◌∷◌, T, eqb, length}
 use Rattle.std.proofs.Math.Path.{refl, sym, ap}
 use Rattle.std.proofs.Common.{◌∙◌, inl, inr, ⊎_elim, zero-add, ne_eqb}
 use Rattle.std.proofs.Math.Bool.{true, false}
@@ -12,7 +12,7 @@ use Rattle.watertight.specs.Count.{starts_by, ends_by, one_where}
 use Rattle.watertight.specs.Fill.{Call, Accepted, path_at, drawn_at}
 use Rattle.watertight.specs.Stored.{one}
 use Rattle.own_lists.specs.Fills.{list_of, OnlyClosedFills}
-use Rattle.own_lists.specs.Pass.{fills_even}
+use Rattle.own_lists.proofs.Pass.{fills_even}
 use Rattle.hpgl.specs.Text.{pick}
 use Rattle.hpgl.specs.Form.{Line, Range}
 use Rattle.hpgl.specs.Rounding.{point_of}
