@@ -3,5 +3,4 @@ pub mod Flattened
 pub mod Walk
 pub mod Decode
 pub mod Lines
-pub mod LinesDrawn
 pub mod Sheet
