@@ -35,7 +35,7 @@ use Rattle.watertight.specs.Fill.{Call, Accepted, outcome, head_or, head_of, eve
 use Rattle.watertight.specs.Fill as watertight
 use Rattle.strokes.specs.Number.{starts, ends}
 use Rattle.strokes.specs.Stroke.{half_width, join_corners, stroke_cubic, Style, Stroked, ends_subpath, run, HasWidth, OpenStroke, plus_coincides, minus_coincides}
-use Rattle.strokes.specs.Tight.{strokes_watertight}
+use Rattle.strokes.proofs.Tight.{strokes_watertight}
 
 -- from (-4, 1) to (-1, 1) and on to (-1, 4), with butt caps and a bevel join, under the identity
 unfoldable pub corner : ℕ → Call

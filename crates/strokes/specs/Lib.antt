@@ -1,6 +1,5 @@
 pub mod Number
 pub mod Stroke
-pub mod Tight
 pub mod Turned
 pub mod Alike
 pub mod Leads

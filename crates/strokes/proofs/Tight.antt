@@ -11,7 +11,6 @@ use Rattle.spiral.specs.Points.{SamePoint, eq→same_point, apply_same}
 use Rattle.spiral.specs.declared.util.Vec2.{Vec2}
 use Rattle.drawing.specs.Sheet.{Event}
 use Rattle.drawing.specs.Join.{corners_of}
-use Rattle.drawing.specs.Cubic.{point}
 use Rattle.segment.specs.Segment.{quarter, steady_of, neighbor_of, stroke_events}
 use Rattle.segment.specs.declared.Neighbor.{Neighbor}
 use Rattle.scene.specs.Reading.{floats_at}
