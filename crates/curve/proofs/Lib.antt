@@ -3,3 +3,4 @@ pub mod Scale
 pub mod Ranges
 pub mod Tree
 pub mod Walk
+pub mod OneLine

@@ -3,7 +3,7 @@ use mathlib.Core.Path.{refl, sym, ◌∙◌}
 use lib.Ieee.{of_bits, round}
 use Rattle.drawing.specs.PageLaws.{draws, nothing, yes, no, as_many}
 use Rattle.curve.specs.Curve.{side_events}
-use Rattle.curve.specs.OneLine.{one_line_side}
+use Rattle.curve.proofs.OneLine.{one_line_side}
 use Rattle.curve.proofs.draw_side.Goals as goal
 
 pub returns-then-is_point : goal.returns-then-is_point
