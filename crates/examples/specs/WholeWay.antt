@@ -56,7 +56,7 @@ use Rattle.cut.specs.declared.Stage.TheVariants.{Profile, Export}
 use Rattle.cut.specs.declared.Answer.TheVariants.{Whole, Refused}
 use Rattle.whole_way.specs.Promise.{cut_lines, Promise}
 use Rattle.whole_way.specs.Stages.{refused_leaves}
-use Rattle.whole_way.specs.WholeWay.{whole_way}
+use Rattle.whole_way.proofs.WholeWay.{whole_way}
 
 -- ---- what goes in
 

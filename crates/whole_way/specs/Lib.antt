@@ -4,5 +4,4 @@ pub mod Conditions
 pub mod Sheets
 pub mod Drawn
 pub mod Stages
-pub mod WholeWay
 pub mod Accepts

@@ -2,7 +2,7 @@
 use Rattle.std.specs.Prelude.{ℕ, ◌*◌, ◌≤◌, ◌≡◌, refl, List, [], ◌∷◌, ◌++◌, length, take, drop}
 use Rattle.std.proofs.Common.{sym, ap, ◌∙◌, subst}
 use Rattle.pattern.specs.Commands.{Command, Outcome, number_of}
-use Rattle.pattern.specs.Meaning.{Subpath, nothing, meant, fresh_pen, fresh}
+use Rattle.pattern.specs.Meaning.{nothing, meant, fresh_pen, fresh}
 use Rattle.svg.specs.Language.{Means}
 use Rattle.svg.specs.Language.{Command as Svg}
 use Rattle.svg.specs.Meaning.{meaning}
@@ -11,10 +11,10 @@ use Rattle.svg.specs.Imports.{all_kept, all_after, accepted_text}
 use Rattle.imported.specs.Lines.{meaning_finishes}
 use Rattle.outlines.specs.Placing.{left, subpaths, Finished, drawn_tags, drawn_points, tags_from}
 use Rattle.outlines.specs.Flattened.{flattened}
-use Rattle.outlines.specs.LinesDrawn.{lines_drawn}
+use Rattle.outlines.proofs.LinesDrawn.{lines_drawn}
 use Rattle.closed_cuts.specs.Closed.{segments_from, rounded, AllTaken}
 use Rattle.closed_cuts.specs.Chains.{lines_are, lines_taken, chains_close}
-use Rattle.closed_cuts.specs.Balance.{closed_balance}
+use Rattle.closed_cuts.proofs.Balance.{closed_balance}
 use Rattle.own_lists.specs.Fills.{list_of}
 use Rattle.watertight.specs.Fill.{Call, Accepted, outcome, lines_of}
 use Rattle.watertight.specs.Fill as fills
