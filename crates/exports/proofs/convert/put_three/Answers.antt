@@ -6,8 +6,7 @@ use native.Mathlib.Omega.{arith}
 use lib.ListN.{length, set, length-set}
 use borrow.Author.Rules.{rules}
 use Rattle.exports.specs.Convert.{three_of}
-use Rattle.exports.proofs.convert.put_three.Statement.{statement}
-use Rattle.exports.proofs.convert.put_three.Tie as tie
+use Rattle.exports.proofs.convert.put_three.Goals as goal
 
 written : (ws : List ℕ) (a b c : ℕ) → 2 < length ws → set (set (set ws 0 a) 1 b) 2 c ≡ three_of a b c ws
 unfolding three_of
@@ -23,14 +22,11 @@ untouched (d ∷ []) a b c h = refl
 untouched (d ∷ e ∷ []) a b c h = refl
 untouched (d ∷ e ∷ f ∷ ws) a b c h = absurd (omega arith)
 
-slice_write_out_2 : tie.Need-slice-write-out-2
-slice_write_out_2 c = let h = c.if1.true in simp length-set (omega arith)
+pub bounds-out-1 : goal.bounds-out-1
+bounds-out-1 c = let h = c.if-out-gt2.true in simp length-set (omega arith)
 
-returns : tie.Need-returns
-returns c = written _ _ _ _ c.if1.true
+pub returns-then-out-gt2 : goal.returns-then-out-gt2
+returns-then-out-gt2 c = written _ _ _ _ c.if-out-gt2.true
 
-returns_2 : tie.Need-returns-2
-returns_2 c = untouched _ _ _ _ c.if1.false
-
-pub put_three_spec : {M : Type 1} → statement M
-put_three_spec = tie.close (tie.spec (λ c. search rules) slice_write_out_2 (λ c. search rules) (λ c. search rules) returns returns_2)
+pub returns-else-out-gt2 : goal.returns-else-out-gt2
+returns-else-out-gt2 c = untouched _ _ _ _ c.if-out-gt2.false

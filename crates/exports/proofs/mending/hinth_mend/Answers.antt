@@ -8,8 +8,7 @@ use Rattle.mender.specs.declared.list.Outcome.{Outcome}
 use Rattle.mender.specs.declared.list.Told.{Told}
 use Rattle.exports.specs.Check.{two_of}
 use Rattle.exports.specs.Mend.{MendedBy}
-use Rattle.exports.proofs.mending.hinth_mend.Statement.{statement}
-use Rattle.exports.proofs.mending.hinth_mend.Tie as tie
+use Rattle.exports.proofs.mending.hinth_mend.Goals as goal
 
 mended : {list : List ℕ} {within : ℕ} {before after : Lent} {os os' : List ℕ} (o : Outcome) (t : Told) → Mends list within before o after → t ≡ told_of o → os' ≡ two_of t.first t.second os
     → MendedBy list within before os t.number after os'
@@ -21,13 +20,6 @@ mended {os = os} o t m e w =
       written = w ∙ ap (λ (t : Told). two_of t.first t.second os) e;
     }
 
-returns : tie.Need-returns
+pub returns : goal.returns
 returns c =
-    let t = c.before.before.before.before in
-    let m = t.before.before.before.before.before in
-    mended m.mend.result t.told.result m.mend.ensures t.told.ensures c.before.before.put_two.ensures
-
-pub hinth_mend_spec : {M : Type 1} → statement M
-hinth_mend_spec =
-    tie.close
-    (tie.spec (λ c κs. search rules) (λ c κs. search rules) (λ c κs. search rules) (λ c. search rules) (λ c. search rules) (λ c. search rules) returns)
+    mended c.mend.result c.told-told.result c.mend.ensures c.told-told.ensures c.put_two.ensures

@@ -6,8 +6,7 @@ use native.Mathlib.Omega.{arith}
 use lib.ListN.{length, set}
 use borrow.Author.Rules.{rules}
 use Rattle.exports.specs.Check.{two_of}
-use Rattle.exports.proofs.check.put_two.Statement.{statement}
-use Rattle.exports.proofs.check.put_two.Tie as tie
+use Rattle.exports.proofs.check.put_two.Goals as goal
 
 written : (ws : List ℕ) (a b : ℕ) → 1 < length ws → set (set ws 0 a) 1 b ≡ two_of a b ws
 unfolding two_of
@@ -21,11 +20,8 @@ untouched [] a b h = refl
 untouched (c ∷ []) a b h = refl
 untouched (c ∷ d ∷ ws) a b h = absurd (omega arith)
 
-returns : tie.Need-returns
-returns c = written _ _ _ c.if1.true
+pub returns-then-out-gt1 : goal.returns-then-out-gt1
+returns-then-out-gt1 c = written _ _ _ c.if-out-gt1.true
 
-returns_2 : tie.Need-returns-2
-returns_2 c = untouched _ _ _ c.if1.false
-
-pub put_two_spec : {M : Type 1} → statement M
-put_two_spec = tie.close (tie.spec (λ c. search rules) (λ c. search rules) (λ c. search rules) returns returns_2)
+pub returns-else-out-gt1 : goal.returns-else-out-gt1
+returns-else-out-gt1 c = untouched _ _ _ c.if-out-gt1.false
