@@ -11,7 +11,8 @@ use Rattle.std.specs.Float.Ieee.Scale.{finite}
 use Rattle.std.specs.Float.Ieee.Positive.{positive, above_of_le}
 use Rattle.laws.specs.Binary32.{◌⊕◌, ◌⊖◌, ◌⊗◌, ◌⊘◌, f32}
 use Rattle.laws.specs.Neg.{neg_neg, round_neg, mul_neg, div_neg}
-use Rattle.laws.specs.Same.{is_zero, either, null, mul_swap, mul_zero_fin, mul_zero_other, round_zero, not_zero}
+use Rattle.laws.specs.Same.{is_zero, either, null, mul_swap, round_zero}
+use Rattle.laws.proofs.Same.{mul_zero_fin, mul_zero_other, not_zero}
 use Rattle.laws.specs.NotFinite.{unsigned, unsigned_mul}
 use Rattle.laws.specs.Limits.{Small, AtLeast, times, plus, turned, own, under, least_product}
 use Rattle.numbers.specs.Words.{sign_of, signed, abs_of}
