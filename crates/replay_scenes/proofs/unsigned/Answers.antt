@@ -11,8 +11,7 @@ use lib.Signed.{lt_z, non_neg}
 use mir.Syntax.{w32}
 use mir.Val.{Fits, SFits, to_z, of_z}
 use mir.ValLaws.{to_z_pos, to_z-of_z}
-use Rattle.replay_scenes.proofs.unsigned.Statement.{statement}
-use Rattle.replay_scenes.proofs.unsigned.Tie as tie
+use Rattle.replay_scenes.proofs.unsigned.Goals as goal
 
 -- what a cast to u32 asks
 abbrev Sized : ℤ → Type 0
@@ -36,11 +35,8 @@ above (negsuc n) f e = absurd (true≢false e)
 tested : (z : ℤ) → SFits w32 z → lt_z (to_z w32 (of_z w32 z)) (pos 0) ≡ lt_z z (pos 0)
 tested z f = ap (λ (y : ℤ). lt_z y (pos 0)) (to_z-of_z w32 z f)
 
-cast_result : tie.Need-overflow-cast-result
-cast_result c = let x = c.before.args.x in let f = c.before.ranges.x in small _ (below x f (sym (tested x f) ∙ c.if1.true))
+pub overflow_cast-result : goal.overflow_cast-result
+overflow_cast-result c = let x = c.args.x in let f = c.ranges.x in small _ (below x f (sym (tested x f) ∙ c.if-x-lt0.true))
 
-cast_result_2 : tie.Need-overflow-cast-result-2
-cast_result_2 c = let x = c.before.args.x in let f = c.before.ranges.x in small _ (above x f (sym (tested x f) ∙ c.if1.false))
-
-pub unsigned_spec : {M : Type 1} → statement M
-unsigned_spec = tie.close (tie.spec cast_result (λ c. tt) cast_result_2 (λ c. tt))
+pub overflow_cast-result-2 : goal.overflow_cast-result-2
+overflow_cast-result-2 c = let x = c.args.x in let f = c.ranges.x in small _ (above x f (sym (tested x f) ∙ c.if-x-lt0.false))
