@@ -11,7 +11,8 @@ use lib.Ieee.{Float, nan, inf, fin, binary32, round, mul, add, eq, le, of_int, u
 use lib.Ieee.Exact.{HasValue}
 use lib.Ieee.Fits.{down_pos}
 use Rattle.laws.specs.Same.{one}
-use Rattle.laws.specs.Dyadic.{of_int_lem, half_is, dy_val, dy_mul, dy_add, dy_le, dy_scale, at_end}
+use Rattle.laws.specs.Dyadic.{of_int_lem, half_is, dy_val, dy_mul, dy_add, dy_le, dy_scale}
+use Rattle.laws.proofs.Dyadic.{at_end}
 use Rattle.curve.specs.Curve.{part}
 
 few : {n : ℕ} → n ≤ 65536 → n < 2 ^ 24

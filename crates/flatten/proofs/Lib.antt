@@ -1,4 +1,2 @@
 pub mod Bounds
-pub mod Again
-pub mod Front
 pub mod Steps

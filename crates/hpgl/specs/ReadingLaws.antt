@@ -1,7 +1,7 @@
 -- What the parts of the reader find, and how the automaton goes on from there. Assumes nothing.
 use Rattle.std.specs.Prelude.{◌≡◌, Bool, true, false, ◌&&◌, ℤ, ltb, get_or, drop, set}
 use Rattle.std.proofs.Math.Path.{refl, sym, ap}
-use Rattle.std.proofs.Common.{◌∙◌, subst, inl, inr, le_trans, add-zero, add-one, ltb→lt, nltb→le, drop_of_length-le, drop-cons, drop-drop}
+use Rattle.std.proofs.Common.{◌∙◌, inl, inr, le_trans, add-zero, add-one, ltb→lt, nltb→le, drop_of_length-le, drop-cons, drop-drop}
 use mathlib.Core.List.{List, [], ◌∷◌}
 use Prim.{Unit}
 use Prim.Native.Nat.{ℕ, zero, suc, ◌+◌, ◌-◌, ◌*◌, ◌/◌, ◌≤◌, ◌<◌}
@@ -18,7 +18,7 @@ use Rattle.hpgl.specs.Text.{pick}
 use Rattle.hpgl.specs.Form.{Line, Pen, up, down, Range, most, range_of, Within}
 use Rattle.hpgl.specs.Reading.{dash, digit, other, byte_of, kept, on_digit, on_other, num_step, State, start1, start2, start3, free, pen, first, second, Move, go, drew, bad, outside, up_from, down_from, whole, first_of, second_of, move_of, End, malformed, too_far, full, Answer, answer, ending, after, run, read_of, flat, Told, told, back_of, tell, reading_of}
 use Rattle.hpgl.specs.Ranges.{most_few, most_new}
-use Rattle.hpgl.specs.Numbers.{Good, NumSays, view, num_says}
+use Rattle.hpgl.specs.Numbers.{Good}
 use Rattle.hpgl.specs.declared.Point.{Point}
 use Rattle.hpgl.specs.declared.Table.{Table}
 use Rattle.hpgl.specs.declared.Table.TheVariants.{New}
@@ -92,7 +92,7 @@ module _ (b : ℕ) where
 -- ---- the reader that is set to a table
 module _ (table : Table) where
   -- ---- a number's bytes
-  abbrev num_next : (Num → Number) → ℕ → NumStep → Number
+  abbrev pub num_next : (Num → Number) → ℕ → NumStep → Number
   num_next rest at (Goes m) = rest m
   num_next rest at (Done z) = number_is.Whole z at
   num_next rest at Wrong = number_is.Wrong at
@@ -126,39 +126,6 @@ module _ (table : Table) where
     pub number_short : length file ≤ at → Numbered file start e (number_is.Wrong at)
     unfolding num_run
     number_short h = record { is = ap (num_run e n at) (sym (drop_of_length-le file h)) ∙ inv.same; inside = tt }
-
-    module _ (h : at < length file) (q : NumStep) (s : q ≡ num_step (range_of table) (eqb (get_or file at 0) e) n (byte_of (get_or file at 0))) where
-      byte : num_next (λ m. num_run e m (suc at) (drop (suc at) file)) at q ≡ num_run e None start (drop start file)
-      unfolding num_run
-      byte = ap (num_next (λ m. num_run e m (suc at) (drop (suc at) file)) at) s ∙ ap (num_run e n at) (sym (drop-cons file at 0 h)) ∙ inv.same
-
-      abbrev Here : NumStep → Type 0
-      Here = NumSays (range_of table) (eqb (get_or file at 0) e) n (get_or file at 0)
-
-      -- what the step says of the number
-      here : Here q
-      here = subst Here (sym s) (num_says (range_of table) (eqb (get_or file at 0) e) n (get_or file at 0) (byte_of (get_or file at 0)) (view (get_or file at 0)) inv.good)
-
-      pub number_on : (m : Num) → q ≡ Goes m → Counting file start e m (at + 1)
-      number_on m g =
-          record {
-            same = rw (add-one at) (rw g at byte);
-            behind = omega (arith, inv.behind);
-            inside = omega arith;
-            good = (subst Here g here).1;
-          }
-
-      pub number_within : (z : ℤ) → q ≡ Done z → Within (range_of table) z
-      number_within z g = (subst Here g here).2
-
-      pub number_done : (z : ℤ) → q ≡ Done z → Numbered file start e (number_is.Whole z at)
-      number_done z g = record { is = rw g at byte; inside = (inv.behind, h, number_within z g) }
-
-      pub number_wrong : q ≡ Wrong → Numbered file start e (number_is.Wrong at)
-      number_wrong g = record { is = rw g at byte; inside = tt }
-
-      pub number_beyond : q ≡ Beyond → Numbered file start e number_is.Beyond
-      number_beyond g = record { is = rw g at byte; inside = tt }
 
   -- ---- a number in the automaton: F n is the state that has read n of it, M the move
   module _ (file : List ℕ) (e q : ℕ) (F : Num → State) (M : ℕ → NumStep → Move) (room : ℕ) where

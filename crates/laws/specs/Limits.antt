@@ -5,7 +5,7 @@ use Rattle.std.proofs.Common.{sym, ap, ◌∙◌, subst, zero-le, le_refl, le_tr
 use Rattle.std.proofs.Math.Nat.{mul-mul-mul_comm, mul-sub}
 use Rattle.std.proofs.Math.Dec.{eqb-suc-zero}
 use Rattle.std.specs.Float.{nan, inf, fin, binary32}
-use Rattle.std.specs.Float.Ieee.{up, down, unlike, below, round, fits, sum, neg, add, sub, mul, div, lt, eq, le}
+use Rattle.std.specs.Float.Ieee.{up, down, unlike, below, round, sum, neg, add, sub, mul, div, lt, eq, le}
 use Rattle.std.specs.Float.Ieee.Fits.{up_pos, down_pos, and_l, and_r}
 use Rattle.std.specs.Float.Ieee.Order.{le_of_values, round_mono}
 use Rattle.std.specs.Float.Ieee.Scale.{round_same}
@@ -14,7 +14,6 @@ use Rattle.laws.specs.Binary32.{◌⊕◌, ◌⊖◌, ◌⊗◌, ◌⊘◌, dec,
 use Rattle.laws.specs.Compare.{under_zero}
 use Rattle.laws.specs.Neg.{round_neg}
 use Rattle.laws.specs.Same.{add_swap, mul_swap}
-use Rattle.laws.specs.Own.{add_zero_own}
 use Rattle.laws.specs.NotFinite.{unsigned, unsigned_round}
 use Rattle.laws.specs.Size.{AtMost, widened, of_unsigned, lt_or_eq, zero_at_most, le_at_most, neg_at_most, round_at_most, round_twice, mul_at_most, add_at_most}
 
@@ -178,7 +177,7 @@ pub nothing : (b : Float) → T (unsigned b) → Small b (whole 0)
 unfolding round
 nothing b u = record { held = by_limit b (whole 0) u (λ (p : ℕ) (k : ℤ) (e : b ≡ fin false p k). zero_at_most false (pos 0) (p * up k) (down k)) }
 
-zero_held : (b v : Float) (s : Bool) (e : ℤ) → Held b v → Held b (fin s zero e)
+pub zero_held : (b v : Float) (s : Bool) (e : ℤ) → Held b v → Held b (fin s zero e)
 zero_held nan v s e h = tt
 zero_held (inf true) v s e h = absurd h
 zero_held (inf false) v s e h = tt
@@ -187,16 +186,6 @@ zero_held (fin false p k) v s e h = zero_at_most s e (p * up k) (down k)
 
 pub zero_small : {b v : Float} (s : Bool) (e : ℤ) → Small b v → Small b (fin s zero e)
 zero_small {b} {v} s e h = record { held = zero_held b v s e h.held }
-
-without_zero : (b x : Float) → T (fits binary32 x) → Held b (x ⊕ whole 0) → Held b x
-unfolding round
-without_zero b nan f h = unfold add in h
-without_zero b (inf s) f h = unfold add in h
-without_zero b (fin s zero e) f h = zero_held b (fin s zero e ⊕ whole 0) s e h
-without_zero b (fin s (suc m) e) f h = subst (Held b) (add_zero_own binary32 (fin s (suc m) e) (whole 0) tt tt f) h
-
-pub more : {a x : Float} (h : Float) → T (fits binary32 x) → T (unsigned h) → Small a x → Small (a ⊕ h) x
-more {a} {x} h f u l = record { held = without_zero (a ⊕ h) x f (plus l (nothing h u)).held }
 
 -- ---- a larger limit
 wider_held : (a b x : Float) → T (le a b) → T (unsigned b) → Held a x → Held b x

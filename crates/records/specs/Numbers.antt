@@ -8,7 +8,8 @@ use Rattle.std.specs.Float.{nan, inf, fin}
 use Rattle.std.specs.Float.Ieee.{binary32, fits, eq, is_nan, to_bits, of_bits, of_fields, odd}
 use Rattle.std.specs.Float.Ieee.Bits.{to_bits-of_bits, of_bits-fits}
 use Rattle.std.specs.Float.Ieee.Scale.{finite}
-use Rattle.laws.specs.Same.{is_zero, Same, same→eq}
+use Rattle.laws.specs.Same.{is_zero, Same}
+use Rattle.laws.proofs.Same.{same→eq}
 use Rattle.laws.specs.Own.{zero_exp, eq→same}
 use Rattle.records.specs.Record.{is_bad, key}
 

@@ -1,8 +1,8 @@
 -- A number names one refusal, and with 5 the end tells which, so what is told determines what was read. Assumes nothing.
-use Rattle.std.specs.Prelude.{ℕ, zero, suc, ◌≡◌, refl, List, [], ◌∷◌}
-use Rattle.std.proofs.Common.{sym, ap, ◌∙◌, arith}
+use Rattle.std.specs.Prelude.{ℕ, zero, suc, ◌≡◌, refl}
+use Rattle.std.proofs.Common.{arith}
 use Rattle.laws.specs.Only.{Only, determined}
-use Rattle.refusals.specs.Refusals.{number_of, end_of, Read, found, refused, Told, told}
+use Rattle.refusals.specs.Refusals.{number_of, end_of}
 use Rattle.refusals.specs.declared.LineEnd.{LineEnd}
 use Rattle.refusals.specs.declared.LineEnd.TheVariants.{Start, End}
 use Rattle.refusals.specs.declared.Refusal.{Refusal}
@@ -56,15 +56,3 @@ number_only why = determined (number_of why)
 
 pub end_only : (why : Refusal) → Only (λ r. r ≡ end_of why)
 end_only why = determined (end_of why)
-
-reads : {A : Type 0} → ℕ → ℕ → List A → Read A
-reads number end (a ∷ more) = found a
-reads number end [] = refused (named number end)
-
-back : {A : Type 0} (r : Read A) → reads (told r).number (told r).end (told r).values ≡ r
-unfolding told reads
-back (found a) = refl
-back (refused why) = ap refused (number_names why)
-
-pub told_once : {A : Type 0} (r s : Read A) → told r ≡ told s → r ≡ s
-told_once {A} r s e = sym (back r) ∙ ap (λ (t : Told A). reads t.number t.end t.values) e ∙ back s

@@ -3,7 +3,7 @@ use Rattle.std.specs.Prelude.{◌≡◌, ℕ, Bool, cond, List, ◌==◌, refl, 
 use Rattle.std.proofs.Common.{sym, ◌∙◌, ap}
 use Rattle.laws.specs.Only.{Only, determined}
 use Rattle.refusals.specs.Refusals.{number_of, Read, found, refused, told}
-use Rattle.refusals.specs.Laws.{told_once}
+use Rattle.refusals.proofs.Laws.{told_once}
 use Rattle.scene.specs.Words.{word_at, word_read}
 use Rattle.scene.specs.Tags.{plus, word_sums, tag_read, tag_of, Scan, scan_told, scan_of}
 use Rattle.std.specs.Float.Ieee.Scale.{finite}

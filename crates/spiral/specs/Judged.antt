@@ -10,7 +10,8 @@ use Rattle.std.specs.Float.Ieee.Fits.{and_l, and_r, and_i}
 use Rattle.laws.specs.Binary32.{◌⊕◌, ◌⊗◌, dec, whole}
 use Rattle.laws.specs.NotFinite.{unsigned, unsigned_round, unsigned_mul}
 use Rattle.laws.specs.Size.{widened}
-use Rattle.laws.specs.Limits.{Small, times, plus, own, decimal, more, most}
+use Rattle.laws.specs.Limits.{Small, times, plus, own, decimal, most}
+use Rattle.laws.proofs.Limits.{more}
 use Rattle.maths.specs.Numbers.{abs_of, small_of_abs}
 use Rattle.maths.specs.Roots.{hypot_of, hypot_small}
 use Rattle.maths.specs.Trig.{lt_not_le}

@@ -7,8 +7,9 @@ use Rattle.std.specs.Float.Ieee.{up, down, fits, round, of_bits, neg, add, sub, 
 use Rattle.std.specs.Float.Ieee.Fits.{up_pos, sub-fits, and_l, and_r}
 use Rattle.std.specs.Float.Ieee.Scale.{finite}
 use Rattle.laws.specs.Binary32.{◌⊕◌, ◌⊖◌, ◌⊗◌, whole}
-use Rattle.laws.specs.Same.{is_zero, plus_zero, null, mul_zero_fin, not_zero}
-use Rattle.laws.specs.Own.{add_zero_own}
+use Rattle.laws.specs.Same.{is_zero, plus_zero, null}
+use Rattle.laws.proofs.Same.{mul_zero_fin, not_zero}
+use Rattle.laws.proofs.Own.{add_zero_own}
 use Rattle.maths.specs.Trig.{sin_of, cos_of, Within, one, minus_one, sin_range, cos_range}
 use Rattle.spiral.specs.Util.{new_of, add_of}
 use Rattle.spiral.specs.Points.{FitsPoint, both}

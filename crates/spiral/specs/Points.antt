@@ -5,8 +5,10 @@ use Rattle.std.specs.Float.{nan, inf, fin, binary32}
 use Rattle.std.specs.Float.Ieee.{fits, is_nan, eq, round}
 use Rattle.std.specs.Float.Ieee.Fits.{and_l, and_r, and_i}
 use Rattle.std.specs.Float.Ieee.Scale.{finite}
-use Rattle.laws.specs.Same.{Same, is_zero, plus_zero, one, row_of, same_row, same_row_exact, or_true, same→eq}
-use Rattle.laws.specs.Own.{eq→same, identity_x, identity_x_zero, identity_y, identity_y_zero, identity_nan_x, identity_nan_y}
+use Rattle.laws.specs.Same.{Same, is_zero, plus_zero, one, row_of, or_true}
+use Rattle.laws.proofs.Same.{same_row, same_row_exact, same→eq}
+use Rattle.laws.specs.Own.{eq→same}
+use Rattle.laws.proofs.Own.{identity_x, identity_x_zero, identity_y, identity_y_zero, identity_nan_x, identity_nan_y}
 use Rattle.spiral.specs.Util.{new_of, has_nan, eq_of, identity_of, apply_of}
 use Rattle.spiral.specs.declared.util.Vec2.{Vec2}
 

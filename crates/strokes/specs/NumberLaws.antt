@@ -6,7 +6,8 @@ use Rattle.std.specs.Float.{nan, inf, fin, binary32}
 use Rattle.std.specs.Float.Ieee.{up, down, of_bits, to_bits, fits, is_nan, eq}
 use Rattle.std.specs.Float.Ieee.Bits.{of_bits-to_bits}
 use Rattle.std.specs.Float.Ieee.Fits.{down_pos, eq→eqb}
-use Rattle.laws.specs.Same.{Same, is_zero, null, same→eq}
+use Rattle.laws.specs.Same.{Same, is_zero, null}
+use Rattle.laws.proofs.Same.{same→eq}
 use Rattle.laws.specs.Own.{eq→same}
 use Rattle.spiral.specs.Util.{has_nan, eq_of}
 use Rattle.spiral.specs.Points.{SamePoint, FitsPoint}

@@ -8,7 +8,8 @@ use Rattle.std.specs.Float.{nan, inf, fin, binary32}
 use Rattle.std.specs.Float.Ieee.{up, down, round, neg, sum, add, sub, mul, lt, le, eq}
 use Rattle.std.specs.Float.Ieee.Fits.{down_pos, and_l, and_r}
 use Rattle.laws.specs.Binary32.{whole}
-use Rattle.laws.specs.Same.{Same, is_zero, null, same_trans, round_zero, add_zeros, mul_zero_fin}
+use Rattle.laws.specs.Same.{Same, is_zero, null, same_trans, round_zero}
+use Rattle.laws.proofs.Same.{add_zeros, mul_zero_fin}
 use Rattle.spiral.specs.Util.{robust_epsilon, add_of, sub_of, mul_of, dot_of, length_squared_of, normalize_of, eq_of, apply_of}
 use Rattle.spiral.specs.Points.{SamePoint, FitsPoint, eq→same_point, apply_same}
 use Rattle.spiral.specs.declared.util.Vec2.{Vec2}

@@ -5,5 +5,4 @@ pub mod Steady
 pub mod Flat
 pub mod TrigLaws
 pub mod Limits
-pub mod Direct
 pub mod TrigValues

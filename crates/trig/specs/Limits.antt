@@ -21,7 +21,7 @@ use Rattle.laws.specs.Same.{is_zero, null, round_zero}
 use Rattle.laws.specs.Size.{AtMost, lt_or_eq, round_at_most}
 use Rattle.laws.specs.Limits.{Held, Small, AtLeast, times, plus, turned, own, zero_small, sum_least, div_is}
 use Rattle.numbers.specs.Words.{sign_of, signed, abs_of}
-use Rattle.numbers.specs.Limits.{signed_small, abs_small, abs_under, small_of_abs}
+use Rattle.numbers.specs.Limits.{abs_small, abs_under, small_of_abs}
 use Rattle.trig.specs.Trig.{zero as none, one, minus_one, pi, infinity, bounded_of, sin_near, cos_near, reduced_of, curve_of, wave_of, sin_of, cos_of, atan_near, slope_of, angle_of, atan2_of}
 use Rattle.trig.specs.TrigLaws.{cos_range, abs_inside}
 use Rattle.trig.specs.Flat.{flat}
@@ -75,7 +75,7 @@ bounded_small {b} {v} s p i q j low high h = go (lt (fin s p i) v) (lt v (fin fa
 over_top : {b v : Float} (p : ℕ) (j : ℤ) → T (not (lt v (fin false p j))) → Small b v → Small b (fin false p j)
 over_top {b} {v} p j g h = record { held = smaller b v false p j (λ s m e k. size_above s m e p j (subst (λ (w : Float). T (not (lt w (fin false p j)))) k g)) h.held }
 
-within_ones : {b v : Float} → Small b v → Small b (bounded_of minus_one one v)
+pub within_ones : {b v : Float} → Small b v → Small b (bounded_of minus_one one v)
 unfolding of_bits
 within_ones {b} {v} h =
     bounded_small true 1 (pos 0) 1 (pos 0)
@@ -118,11 +118,6 @@ sin_is x f h = rw (is_true (lt (abs_of x) infinity) f, is_true (lt (abs_of x) (f
 pub cos_is : (x : Float) → T (lt (abs_of x) infinity) → T (lt (abs_of x) (f32 0x3f480000)) → cos_of x ≡ bounded_of minus_one one (cos_near (abs_of x))
 unfolding cos_of reduced_of wave_of curve_of signed
 cos_is x f h = rw (is_true (lt (abs_of x) infinity) f, is_true (lt (abs_of x) (f32 0x3f480000)) h)
-
-pub sin_small : {a x : Float} → T (lt a (f32 0x3f480000)) → Small a x → Small (sin_limit a) (sin_of x)
-sin_small {a} {x} l h =
-    subst (λ (v : Float). Small (sin_limit a) v) (sym (sin_is x (abs_under infinity (below_infinity a (f32 0x3f480000) l) h) (abs_under (f32 0x3f480000) l h)))
-    (signed_small (sign_of x) (within_ones (near_small (abs_small h))))
 
 -- ---- cos: 1 less at most so much
 unfoldable pub cos_drop : Float → Float

@@ -71,7 +71,7 @@ neg_nan : neg nan ≡ nan
 unfolding neg
 neg_nan = refl
 
-neg_cond : (b : Bool) (v : Float) → cond b (neg v) nan ≡ neg (cond b v nan)
+pub neg_cond : (b : Bool) (v : Float) → cond b (neg v) nan ≡ neg (cond b v nan)
 neg_cond true v = refl
 neg_cond false v = sym neg_nan
 
@@ -80,18 +80,11 @@ neg_cond_not true v = sym neg_nan
 neg_cond_not false v = refl
 
 -- a function that takes NaN to NaN and is odd on numbers is odd
-odd : (f : Float → Float) → f nan ≡ nan → ((x : Float) → T (not (is_nan x)) → f (neg x) ≡ neg (f x)) → (x : Float) → f (neg x) ≡ neg (f x)
+pub odd : (f : Float → Float) → f nan ≡ nan → ((x : Float) → T (not (is_nan x)) → f (neg x) ≡ neg (f x)) → (x : Float) → f (neg x) ≡ neg (f x)
 unfolding is_nan
 odd f n h nan = ap f neg_nan ∙ n ∙ sym neg_nan ∙ ap neg (sym n)
 odd f n h (inf s) = h (inf s) tt
 odd f n h (fin s m e) = h (fin s m e) tt
-
-sin_odd_number : (x : Float) → T (not (is_nan x)) → sin_of (neg x) ≡ neg (sin_of x)
-unfolding sin_of
-sin_odd_number x h = rw (abs_neg x, sign_neg x h, signed_not) (neg_cond (lt (abs_of x) infinity) _)
-
-pub sin_odd : (x : Float) → sin_of (neg x) ≡ neg (sin_of x)
-sin_odd = odd sin_of sin_nan sin_odd_number
 
 pub cos_even : (x : Float) → cos_of (neg x) ≡ cos_of x
 unfolding cos_of
@@ -181,9 +174,6 @@ unfolding acos_of le of_bits
 acos_range x h k = rw (is_true (le (abs_of x) one) (abs_inside x h k)) (bounded_within zero zero pi (λ v h. h) tt tt tt tt _)
 
 -- ---- so they are numbers
-pub sin_number : (x : Float) → T (finite x) → T (not (is_nan (sin_of x)))
-sin_number x h = within_number (sin_range x h)
-
 pub cos_number : (x : Float) → T (finite x) → T (not (is_nan (cos_of x)))
 cos_number x h = within_number (cos_range x h)
 

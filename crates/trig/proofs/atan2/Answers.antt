@@ -3,7 +3,7 @@ use mathlib.Core.Path.{sym, ◌∙◌}
 use borrow.Author.Rules.{rules}
 use lib.Ieee.{of_bits, div}
 use Rattle.trig.specs.Trig.{atan2_of}
-use Rattle.trig.specs.Direct.{atan2_direct}
+use Rattle.trig.proofs.Direct.{atan2_direct}
 use Rattle.trig.proofs.atan2.Goals as goal
 
 pub returns-then-r-t : goal.returns-then-r-t

@@ -1,6 +1,6 @@
 -- `trig::cos` meets its contract. Assumes nothing.
 use Rattle.trig.specs.Trig.{cos_of}
-use Rattle.trig.specs.Direct.{cos_direct}
+use Rattle.trig.proofs.Direct.{cos_direct}
 use Rattle.trig.proofs.cos.Goals as goal
 
 pub returns-then-c : goal.returns-then-c

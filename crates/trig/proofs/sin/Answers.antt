@@ -4,7 +4,7 @@ use mathlib.Core.Bool.{Bool, true, false, cond}
 use lib.Ieee.{Float, nan, neg}
 use Rattle.numbers.specs.Words.{signed}
 use Rattle.trig.specs.Trig.{sin_of}
-use Rattle.trig.specs.Direct.{sin_direct}
+use Rattle.trig.proofs.Direct.{sin_direct}
 use Rattle.trig.proofs.sin.Goals as goal
 
 -- a NaN has no sign

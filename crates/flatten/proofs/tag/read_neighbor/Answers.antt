@@ -1,6 +1,6 @@
 -- `flatten::tag::read_neighbor` meets its contract. Assumes nothing.
 use Rattle.std.proofs.Common.{sym, ap, ◌∙◌, rules}
-use Rattle.refusals.specs.Laws.{told_once}
+use Rattle.refusals.proofs.Laws.{told_once}
 use Rattle.scene.specs.Tags.{tag_read}
 use Rattle.flatten.specs.Tag.{◌>>=◌, neighbor_at}
 use Rattle.flatten.proofs.tag.read_neighbor.Goals as goal

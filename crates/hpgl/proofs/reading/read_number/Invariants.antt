@@ -6,7 +6,8 @@ use native.Mathlib.Omega.{arith}
 use lib.ListN.{length}
 use Rattle.hpgl.specs.Numbers.{Good}
 use Rattle.hpgl.proofs.Signed.{within_back}
-use Rattle.hpgl.specs.ReadingLaws.{Counting, number_short, number_on, number_within, number_done, number_wrong, number_beyond}
+use Rattle.hpgl.specs.ReadingLaws.{Counting, number_short}
+use Rattle.hpgl.proofs.ReadingLaws.{number_on, number_within, number_done, number_wrong, number_beyond}
 use Rattle.hpgl.proofs.reading.read_number.Given as goal
 
 abbrev pub invariant-loop-at : goal.invariant-loop-at

@@ -1,0 +1,4 @@
+pub mod Same
+pub mod Own
+pub mod Dyadic
+pub mod Limits
