@@ -59,6 +59,13 @@ is_program() { [ -f "crates/$1/src/main.rt" ]; }
 # has_ci_passed: whether the last whole `rt ci` of the gate here was of the crates as they are now.
 has_ci_passed() { is_fresh target/made/ci; }
 
+# make_program NAME: makes target/bin/NAME. `rt run` also runs the program, here on no input. The gate's `rt ci` leaves the
+# program that it proved in the same place.
+make_program() {
+    { has_ci_passed && [ -f "crates/$1/out/$1" ]; } || (cd "crates/$1" && rt run) || return
+    mkdir -p target/bin && cp "crates/$1/out/$1" "target/bin/$1.new" && mv "target/bin/$1"{.new,}
+}
+
 make_current() {
     local file=$1 name=$2 mark
     shift 2
