@@ -1,2 +1,4 @@
 pub mod Bounds
+pub mod Again
+pub mod Front
 pub mod Steps
