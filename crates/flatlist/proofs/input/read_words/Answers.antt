@@ -25,19 +25,19 @@ pub loop-i-preserved-then-left-gt0 : goal.loop-i-preserved-then-left-gt0
 loop-i-preserved-then-left-gt0 c =
     digit_turn c.loop-i.invariant c.loop-i-test.true c.if-left-gt0.true c.digit-d.ensures c.if-d-gt15.false
 
-pub returns-then-b-ne10 : goal.returns-then-b-ne10
-returns-then-b-ne10 c =
-    c.bad_sheet-then-b-ne10.ensures
-    ∙ sym (bad_line_end c.loop-i.invariant c.loop-i-test.true c.if-left-gt0.false c.if-b-ne10.true)
+pub returns-then-not-is_end : goal.returns-then-not-is_end
+returns-then-not-is_end c =
+    c.bad_sheet-then-not-is_end.ensures
+    ∙ sym (bad_line_end c.loop-i.invariant c.loop-i-test.true c.if-left-gt0.false c.if-not-is_end.true)
 
 pub returns-then-count-ge1030 : goal.returns-then-count-ge1030
 returns-then-count-ge1030 c =
     c.bad_sheet-then-count-ge1030.ensures
-    ∙ sym (no_room_lem c.loop-i.invariant c.loop-i-test.true c.if-left-gt0.false c.if-b-ne10.false c.if-count-ge1030.true)
+    ∙ sym (no_room_lem c.loop-i.invariant c.loop-i-test.true c.if-left-gt0.false c.if-not-is_end.false c.if-count-ge1030.true)
 
 pub loop-i-preserved : goal.loop-i-preserved
 loop-i-preserved c =
-    line_turn c.loop-i.invariant c.loop-i-test.true c.if-left-gt0.false c.if-b-ne10.false c.if-count-ge1030.false
+    line_turn c.loop-i.invariant c.loop-i-test.true c.if-left-gt0.false c.if-not-is_end.false c.if-count-ge1030.false
 
 pub returns : goal.returns
 returns c = c.ended.ensures ∙ at_end c.loop-i.invariant c.loop-i-test.false

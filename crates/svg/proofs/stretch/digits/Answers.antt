@@ -1,11 +1,10 @@
 -- `svg::stretch::digits` meets its contract. Assumes nothing.
 use mathlib.Core.Path.{◌≡◌, sym, ◌∙◌}
 use mathlib.Core.Bool.{true}
-use Prim.Native.Nat.{◌-◌, ◌≤◌, ◌<◌}
+use Prim.Native.Nat.{◌≤◌, ◌<◌}
 use lib.ListN.{length, get_or}
 use native.Mathlib.Omega.{arith}
 use Rattle.svg.specs.Language.{digit_byte}
-use Rattle.svg.specs.Stretch.{Digits}
 use Rattle.svg.proofs.Reading.{room, digit_bounds}
 use Rattle.svg.proofs.Stretches.{digit_told, digits_none, digits_more}
 use Rattle.svg.proofs.stretch.digits.Goals as goal
