@@ -19,7 +19,7 @@ FEWEST = 300
 ROOM = "1000"  # lines that flatlist has room for
 
 RUN_ALL = """. tools/kit.sh
-made target/bin/flatlist flatlist rt check flatlist
+made target/bin/flatlist flatlist make_program flatlist
 for sheet in "$1"/*.sheet; do
     start target/bin/flatlist <"$sheet" >"${sheet%.sheet}.flatlist" 2>"${sheet%.sheet}.said" || exit
 done"""

@@ -1,5 +1,5 @@
 -- No second answer satisfies the contract of a public function. Assumes nothing.
-use Rattle.std.specs.Prelude.{ℕ, ◌<◌, ◌≡◌, refl, Bool, true, false, List}
+use Rattle.std.specs.Prelude.{ℕ, ◌<◌, ◌≡◌, refl, Bool, false, List}
 use Rattle.std.proofs.Common.{sym, ap, ◌∙◌, true≢false, arith}
 use Rattle.laws.specs.Only.{Only, determined}
 use Rattle.records.specs.Record.{count}

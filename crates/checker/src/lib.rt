@@ -1,5 +1,6 @@
 // A check of a list of line records. See specs/Verdict.antt.
 #![tactic(auto)]
+
 ghost use Rattle.std.specs.Prelude.{◌≡◌};
 ghost use Rattle.records.specs.Record.{count, bad_at};
 ghost use Rattle.checker.specs.Verdict.{uneven_at, Answers, told_of};

@@ -6,7 +6,6 @@ use Rattle.std.specs.Float.{binary32}
 use Rattle.std.specs.Float.Ieee.{to_bits, to_signed}
 use Rattle.maths.specs.Numbers.{floor_of, ceil_of}
 use Rattle.records.specs.Record.{record_words, place_of, count as recordCount}
-use Rattle.refusals.specs.declared.Refusal.{Refusal}
 use Rattle.refusals.specs.declared.LineEnd.TheVariants.{Start, End}
 use Rattle.refusals.specs.declared.Refusal.TheVariants.{NotNumber, NoRoom, NoJoin, NoCount}
 use Rattle.spiral.specs.declared.util.Vec2.{Vec2}

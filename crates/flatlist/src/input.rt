@@ -88,7 +88,8 @@ fn read_words(text: &[u8]) -> Sheet
             word = word * 16 + d;
             left -= 1;
         } else {
-            if b != b'\n' {
+            let is_end = b == b'\n';
+            if !is_end {
                 return bad_sheet();
             }
             if count >= 1030 {
@@ -103,6 +104,7 @@ fn read_words(text: &[u8]) -> Sheet
     ended(words, count, left, word)
 }
 
+#[tactic(auto, unfolding(crate::specs::Form::judged))]
 fn judge(sheet: Sheet) -> Sheet
     ensures { result ≡ judged sheet }
 {

@@ -1,6 +1,7 @@
 // Flattens the sheet on standard input and writes its lines and boxes. docs/FLATLIST.md has the form of
 // both.
 #![tactic(auto)]
+
 ghost use Rattle.std.specs.Prelude.{◌≤◌};
 
 mod input;
@@ -8,6 +9,7 @@ mod output;
 
 use flatten::boxes::PathBox;
 use flatten::call::{Layout, flatten_owned, report};
+use std::io;
 
 // The first five words.
 fn layout_of(head: &[u32; 1030]) -> Layout {
@@ -21,14 +23,14 @@ fn layout_of(head: &[u32; 1030]) -> Layout {
 }
 
 // The answer, as its number, and the tag and the count of lines in `told`.
-fn write_answer(number: u32, told: &[u64; 3]) {
+fn write_answer(rt: &impl Print, number: u32, told: &[u64; 3]) -> io::Result<()> {
     if number == 0 {
-        output::write_count(b"lines ", told[1]);
+        output::write_count(rt, "lines ", told[1])?;
     } else {
-        output::write_count(b"refused ", number as u64);
-        output::write_count(b" at ", told[0]);
+        output::write_count(rt, "refused ", number as u64)?;
+        output::write_count(rt, " at ", told[0])?;
     }
-    output::end_line();
+    output::end_line(rt)
 }
 
 fn wide(w: u32) -> usize {
@@ -36,7 +38,7 @@ fn wide(w: u32) -> usize {
 }
 
 // A sheet of so many words: six, and the scene behind them.
-fn flatten_sheet(words: [u32; 1030], count: usize)
+fn flatten_sheet(rt: &(impl Print + Eprint), words: [u32; 1030], count: usize) -> io::Result<()>
     requires { (6 ≤ count) × (count ≤ 1030) }
 {
     let layout = layout_of(&words);
@@ -51,21 +53,20 @@ fn flatten_sheet(words: [u32; 1030], count: usize)
     let boxes = done.boxes;
     let mut told = [0u64; 3];
     let number = report(answer, &mut told);
-    write_answer(number, &told);
-    output::say_why(number, told[2]);
-    output::write_lines(&lines, told[1]);
-    output::write_boxes(boxes, n);
+    write_answer(rt, number, &told)?;
+    output::say_why(rt, number, told[2])?;
+    output::write_lines(rt, &lines, told[1])?;
+    output::write_boxes(rt, boxes, n)
 }
 
-fn main() {
+fn main(rt: HostRuntime) -> io::Result<()> {
     let mut text = [0u8; 9271];
-    let n = io::read_full(0, &mut text);
+    let n = lists::read_full(&mut rt.reader(), &mut text)?;
     let sheet = input::read_sheet(&text[..n]);
     if !sheet.good {
-        output::bad_input();
-        return;
+        return output::bad_input(&rt);
     }
     let words = sheet.words;
     let count = sheet.count;
-    flatten_sheet(words, count);
+    flatten_sheet(&rt, words, count)
 }

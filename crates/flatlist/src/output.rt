@@ -1,92 +1,91 @@
 ghost use Rattle.std.specs.Prelude.{◌<◌};
 // What is written: counts, lines of words, boxes.
 use flatten::boxes::PathBox;
+use std::io;
 
-pub fn bad_input() {
-    io::write_all(1, b"bad input\n");
+pub fn bad_input(rt: &impl Print) -> io::Result<()> {
+    rt.println("bad input")
 }
 
 // What the number alone does not say goes to standard error, as a sentence: which end of a line is not a
 // number, or that a count is not.
-pub fn say_why(number: u32, end: u64) {
+pub fn say_why(rt: &impl Eprint, number: u32, end: u64) -> io::Result<()> {
     if number == 8 {
-        io::write_all(2, b"the count of a curve's pieces is not a number\n");
+        rt.eprintln("the count of a curve's pieces is not a number")?;
     }
     if end == 1 {
-        io::write_all(2, b"the start of a line is not a number\n");
+        rt.eprintln("the start of a line is not a number")?;
     }
     if end == 2 {
-        io::write_all(2, b"the end of a line is not a number\n");
+        rt.eprintln("the end of a line is not a number")?;
     }
+    Ok(())
 }
 
-pub fn end_line() {
-    io::write_all(1, b"\n");
+pub fn end_line(rt: &impl Print) -> io::Result<()> {
+    rt.println("")
 }
 
-pub fn write_count(before: &[u8], n: u64) {
-    io::write_all(1, before);
-    io::print_decimal(1, n);
+pub fn write_count(rt: &impl Print, before: &str, n: u64) -> io::Result<()> {
+    print!(rt; "{before}{n}")
 }
 
 // A word of a line, and before all but the first a space.
-fn write_word(i: usize, w: u32) {
+fn write_word(rt: &impl Print, i: usize, w: u32) -> io::Result<()> {
     if i > 0 {
-        io::write_all(1, b" ");
+        rt.print(" ")?;
     }
-    io::print_hex(1, w as u64, 8);
+    print!(rt; "{w:08x}")
 }
 
 // The six words of line k.
-fn write_line(lines: &[u32; 6000], k: usize)
+fn write_line(rt: &impl Print, lines: &[u32; 6000], k: usize) -> io::Result<()>
     requires { k < 1000 }
 {
     let mut i = 0usize;
     while i < 6 {
-        write_word(i, lines[k * 6 + i]);
+        write_word(rt, i, lines[k * 6 + i])?;
         i = i + 1;
     }
-    end_line();
+    end_line(rt)
 }
 
-pub fn write_lines(lines: &[u32; 6000], count: u64) {
+pub fn write_lines(rt: &impl Print, lines: &[u32; 6000], count: u64) -> io::Result<()> {
     let mut k = 0usize;
     while k < 1000 {
         if k as u64 >= count {
-            return;
+            return Ok(());
         }
-        write_line(lines, k);
+        write_line(rt, lines, k)?;
         k = k + 1;
     }
+    Ok(())
 }
 
-fn write_signed(x: i32) {
-    if x < 0 {
-        write_count(b" -", (0 - (x as i64)) as u64);
-    } else {
-        write_count(b" ", x as u64);
-    }
+fn write_signed(rt: &impl Print, x: i32) -> io::Result<()> {
+    print!(rt; " {x}")
 }
 
-fn write_box(b: PathBox) {
-    io::write_all(1, b"box");
-    write_signed(b.x0);
-    write_signed(b.y0);
-    write_signed(b.x1);
-    write_signed(b.y1);
-    write_count(b" ", b.draw_flags as u64);
-    write_count(b" ", b.trans_ix as u64);
-    end_line();
+fn write_box(rt: &impl Print, b: PathBox) -> io::Result<()> {
+    rt.print("box")?;
+    write_signed(rt, b.x0)?;
+    write_signed(rt, b.y0)?;
+    write_signed(rt, b.x1)?;
+    write_signed(rt, b.y1)?;
+    write_count(rt, " ", b.draw_flags as u64)?;
+    write_count(rt, " ", b.trans_ix as u64)?;
+    end_line(rt)
 }
 
 // The first n boxes.
-pub fn write_boxes(boxes: [PathBox; 64], n: usize) {
+pub fn write_boxes(rt: &impl Print, boxes: [PathBox; 64], n: usize) -> io::Result<()> {
     let mut k = 0usize;
     while k < 64 {
         if k >= n {
-            return;
+            return Ok(());
         }
-        write_box(boxes[k]);
+        write_box(rt, boxes[k])?;
         k = k + 1;
     }
+    Ok(())
 }

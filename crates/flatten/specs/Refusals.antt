@@ -1,9 +1,8 @@
 -- Before it draws, a tag is refused by number 2, 3, 4 or 9 alone, and drawing by none of these: so number 1 is given only where a base lies past the scene's end. The count that an answer tells is that of the records stored. Assumes nothing.
-use Rattle.std.specs.Prelude.{◌≡◌, ℕ, ◌+◌, ◌*◌, ◌%◌, ◌^◌, ◌≤◌, Bool, true, false, cond, ◌&&◌, ◌||◌, ltb, ◌⊎◌, List, [], ◌∷◌, length, ◌==◌, from_bits, nat_le, nat_lt, refl, Float}
+use Rattle.std.specs.Prelude.{◌≡◌, ℕ, ◌+◌, ◌*◌, ◌%◌, ◌^◌, ◌≤◌, Bool, true, false, ◌&&◌, ◌||◌, ltb, ◌⊎◌, List, [], ◌∷◌, length, ◌==◌, from_bits, nat_le, nat_lt, refl, Float}
 use Rattle.std.proofs.Common.{sym, subst, inl, inr, arith}
 use Rattle.std.specs.Float.Ieee.{binary32}
-use Rattle.refusals.specs.Refusals.{number_of, Read, found, refused}
-use Rattle.refusals.specs.declared.Refusal.TheVariants.{Outside, NoPrefix, NoBox}
+use Rattle.refusals.specs.Refusals.{number_of, Read, found}
 use Rattle.spiral.specs.declared.util.Vec2.{Vec2}
 use Rattle.spiral.specs.Util.{has_nan}
 use Rattle.drawing.specs.Sheet.{Event, line, no_count, no_join, Sheet, sheet, has_room, stored, draw_on, draw, draw_all}
@@ -16,7 +15,7 @@ use Rattle.scene.specs.Reading.{segment_of, transform_of, all_finite}
 use Rattle.scene.specs.declared.tags.PathTagData.{PathTagData}
 use Rattle.segment.specs.Segment.{neighbor_of, shape_events}
 use Rattle.segment.specs.declared.Shape.TheVariants.{Nothing, Fill, StartCap, Stroke}
-use Rattle.flatten.specs.Tag.{◌>>=◌, inside, tag_at, points_at, finite_only, transform_at, is_path, boxed, head_at, neighbor_at, stroke_by, stroke_at, is_stroke, shape_at, events_by, events_at}
+use Rattle.flatten.specs.Tag.{◌>>=◌, inside, points_at, finite_only, transform_at, is_path, boxed, head_at, neighbor_at, stroke_by, stroke_at, is_stroke, shape_at, events_by, events_at}
 use Rattle.flatten.specs.Step.{drawn_of, fresh_pen, turn_of, refused_at, behind, tag_word, step_from_by, step_of, step_by}
 use Rattle.flatten.specs.Call.{first_turn, start_at, start_of, State, taken, after, answer_for, answer_of, told_of, call_of, call_by}
 use Rattle.flatten.specs.CallLaws.{carried}

@@ -1,5 +1,5 @@
 -- But for the second word of the records stored, the call is the scope paper's: the same answer, the same boxes, the same words. Assumes nothing.
-use Rattle.std.specs.Prelude.{◌≡◌, ℕ, zero, suc, ◌+◌, ◌*◌, ◌<◌, Bool, true, false, ◌||◌, ltb, List, [], ◌∷◌, length, set, ◌≢◌, nat_lt, slice_set, to_bits}
+use Rattle.std.specs.Prelude.{◌≡◌, ℕ, zero, suc, ◌+◌, ◌*◌, ◌<◌, Bool, true, false, ◌||◌, ltb, List, [], ◌∷◌, length, ◌≢◌, nat_lt, slice_set, to_bits}
 use Rattle.std.proofs.Math.Path.{refl, ap}
 use Rattle.std.proofs.Common.{sym, ◌∙◌, add-one, arith, length-set, set-set}
 use Rattle.std.proofs.lemmas.List.Edits.{sets}
@@ -14,7 +14,7 @@ use Rattle.drawing.specs.declared.line.Drawn.{Drawn}
 use Rattle.drawing.specs.declared.line.Drawn.TheVariants.{On, Stopped}
 use Rattle.flatten.specs.Tag.{head_at, events_at}
 use Rattle.flatten.specs.Step.{tag_word, no_word, drawn_of, fresh_pen, turn_of, refused_at, Stepped, stepped, behind, step_from_by, step_by}
-use Rattle.flatten.specs.Call.{start_at, start_of, State, taken, onward_by, next_by, after_by, answer_of, told_of, outcome_of, Outcome, outcome, call_by, call_of, plain_call_of}
+use Rattle.flatten.specs.Call.{start_at, start_of, State, taken, onward_by, next_by, after_by, answer_of, told_of, outcome_of, outcome, call_by, call_of, plain_call_of}
 use Rattle.flatten.specs.Refusals.{tells, start_count}
 use Rattle.flatten.specs.Stands.{end_count}
 use Rattle.flatten.specs.Whose.{aside, set_aside}

@@ -10,11 +10,11 @@ use Rattle.drawing.specs.Stands.{records_of, Stands}
 use Rattle.drawing.specs.declared.line.Drawn.{Drawn}
 use Rattle.drawing.specs.declared.line.Drawn.TheVariants.{On, Stopped}
 use Rattle.flatten.specs.Tag.{head_at, events_at}
-use Rattle.flatten.specs.Step.{tag_word, drawn_of, fresh_pen, turn_of, refused_at, behind, step_from_by, step_by, step_of}
+use Rattle.flatten.specs.Step.{tag_word, drawn_of, fresh_pen, turn_of, refused_at, step_from_by, step_by, step_of}
 use Rattle.flatten.specs.Call.{first_turn, start_at, start_of, State, taken, next, after, after_by, answer_of, call_by, call_of}
 use Rattle.flatten.specs.CallLaws.{moves, at_rest, one_more_lem}
 use Rattle.flatten.specs.Refusals.{tells, start_count}
-use Rattle.flatten.specs.Stands.{Grown, step_grows}
+use Rattle.flatten.specs.Stands.{step_grows}
 use Rattle.flatten.specs.Whose.{count_after, Whose}
 use Rattle.flatten.specs.declared.boxes.PathBox.{PathBox}
 use Rattle.flatten.specs.declared.call.Layout.{Layout}

@@ -1,5 +1,6 @@
 // From encoded tags to lines and boxes: one tag, the box it changes, and the call over all tags.
 #![tactic(auto)]
+
 pub mod boxes;
 pub mod call;
 mod step;

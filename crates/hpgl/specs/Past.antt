@@ -1,7 +1,7 @@
 -- A file of the form, with room for its lines, is read up to its first number outside the range and refused there: no number is shortened. Assumes nothing.
 use Rattle.std.specs.Prelude.{◌≡◌, Bool, not, ◌⊎◌, ℤ, pos, negsuc, T, leb, eqb}
 use Rattle.std.proofs.Math.Path.{refl, ap}
-use Rattle.std.proofs.Common.{sym, ◌∙◌, subst, inl, inr, ⊎_elim, leb→le, length-append}
+use Rattle.std.proofs.Common.{sym, ◌∙◌, inl, inr, ⊎_elim, leb→le, length-append}
 use Rattle.std.proofs.Math.Bool.{true, false}
 use mathlib.Core.List.{List, [], ◌∷◌, ◌++◌, append_assoc}
 use Prim.Native.Nat.{ℕ, zero, suc, ◌+◌, ◌-◌, ◌*◌, ◌/◌, ◌≤◌, ◌<◌}
@@ -14,7 +14,7 @@ use Rattle.hpgl.specs.Text.{pick, decimal, numeral}
 use Rattle.hpgl.specs.TextLaws.{decimal_small, decimal_more, Shape, one, more, shaped}
 use Rattle.hpgl.specs.Form.{Line, Chain, Pen, up, down, letter, command, downs, chains_text, file_text, along, lines_of, Range, most, range_of, Within, Inside, AllInside, Fits}
 use Rattle.hpgl.specs.Rounding.{is_within}
-use Rattle.hpgl.specs.Reading.{digit, byte_of, kept, num_step, State, start1, start2, start3, free, pen, first, second, Move, go, drew, outside, up_from, down_from, whole, first_of, second_of, move_of, too_far, Answer, answer, after, run, read_of, reading_of, tell, back_of, back_report}
+use Rattle.hpgl.specs.Reading.{digit, byte_of, kept, num_step, State, start1, start2, start3, free, pen, first, second, go, drew, outside, up_from, down_from, whole, first_of, second_of, move_of, too_far, Answer, answer, after, run, read_of, reading_of, tell, back_of, back_report}
 use Rattle.hpgl.specs.Numbers.{on}
 use Rattle.hpgl.specs.Accepts.{byte_digit, step_go, begin, num_of, reach, number, first_steps, second_steps, first_ends, opens, command_read, none_left, one_less}
 use Rattle.hpgl.specs.Held.{held, behind, with_line, held_downs, held_chains, held_file}
@@ -22,7 +22,7 @@ use Rattle.hpgl.specs.Answers.{report}
 use Rattle.hpgl.specs.declared.Point.{Point}
 use Rattle.hpgl.specs.declared.Table.{Table}
 use Rattle.hpgl.specs.declared.reading.Num.{Num}
-use Rattle.hpgl.specs.declared.reading.Num.TheVariants.{None, Dashed, Naught, Some}
+use Rattle.hpgl.specs.declared.reading.Num.TheVariants.{None, Dashed, Some}
 use Rattle.hpgl.specs.declared.reading.NumStep.TheVariants.{Goes, Beyond}
 use Rattle.hpgl.specs.declared.reading.Stand.{Stand}
 use Rattle.hpgl.specs.declared.reading.Stand.TheVariants.{Fresh, Lifted, Drawn}

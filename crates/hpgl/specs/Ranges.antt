@@ -1,5 +1,5 @@
 -- How far the numbers of the two tables reach. Assumes nothing.
-use Rattle.std.specs.Prelude.{◌≡◌, refl, Bool, true, false, ℕ, ◌≤◌}
+use Rattle.std.specs.Prelude.{◌≡◌, refl, Bool, true, false, ◌≤◌}
 use Rattle.std.proofs.Common.{lit≤}
 use Rattle.hpgl.specs.Form.{most, range_of}
 use Rattle.hpgl.specs.declared.Table.{Table}

@@ -1,5 +1,5 @@
 -- The rounded number is at most half away, and at exactly half away it is even. Assumes nothing.
-use Rattle.std.specs.Prelude.{◌≡◌, refl, ◌⊎◌, not, ℤ, pos, negsuc, T, leb, ltb, eqb, Float}
+use Rattle.std.specs.Prelude.{◌≡◌, refl, ◌⊎◌, not, ℤ, pos, negsuc, T, ltb, eqb, Float}
 use Rattle.std.proofs.Common.{sym, subst, inl, inr, ⊎_elim, mod-lt, div-add-mod', le_antisymm, arith, T_not, leb→le, ltb→lt, nltb→le, eqb→eq, lit≤}
 use Prim.Native.Nat.{ℕ, zero, suc, ◌+◌, ◌*◌, ◌/◌, ◌%◌, ◌≤◌, ◌<◌, compare, Ordering}
 use Rattle.std.proofs.Math.Dec.{is_le, compare_is_eq, nleb→lt, eqb_refl}

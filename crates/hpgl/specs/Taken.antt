@@ -1,5 +1,5 @@
 -- What the export accepted of a path are numbers that, rounded, are in range: none of them is a NaN or an infinity, which `rounded_of` would take for 0. Assumes nothing.
-use Rattle.std.specs.Prelude.{◌≡◌, Bool, true, false, ◌&&◌, leb, ltb, eqb, length}
+use Rattle.std.specs.Prelude.{Bool, true, false, ◌&&◌, leb, ltb, eqb, length}
 use Rattle.std.proofs.Common.{sym, arith, eqb→eq}
 use Rattle.std.proofs.Math.Path.{subst}
 use mathlib.Core.List.{List, [], ◌∷◌}

@@ -1,5 +1,6 @@
 // HP-GL: the lines of one path as cuts for the knife table, and the reader of such files.
 #![tactic(auto)]
+
 pub mod export;
 pub mod looking;
 mod range;

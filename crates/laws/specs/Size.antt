@@ -1,6 +1,6 @@
 -- How large a binary32 number is at most: what is compared, rounded, multiplied and added. Assumes nothing.
-use Rattle.std.specs.Prelude.{◌≡◌, refl, ◌⊎◌, Bool, true, false, not, ◌&&◌, ◌||◌, cond, ℤ, pos, T, ltb, eqb, Float}
-use Rattle.std.proofs.Common.{sym, ap, ◌∙◌, subst, inl, inr, le_trans, le_of_eq, le_refl, le_of_lt, lt_of_le_of_lt, mul_left_comm, add-le-add, zero-mul, mul_assoc, mul_comm, mul_right_comm, mul-pos, mul-le-mul, mul-le-mul_right, mul-le-mul_left, le_of_mul-le-mul_right, add-mul, div-mul-le_self, div-add-mod', eq-zero-or-pos, arith, eqb→eq, ltb→lt, lit<, pow_pos}
+use Rattle.std.specs.Prelude.{◌≡◌, Bool, true, false, not, ◌&&◌, ◌||◌, cond, ℤ, T, ltb, eqb, Float}
+use Rattle.std.proofs.Common.{sym, ap, ◌∙◌, subst, inl, inr, le_trans, le_of_eq, le_refl, le_of_lt, lt_of_le_of_lt, mul_left_comm, add-le-add, zero-mul, mul_assoc, mul_comm, mul_right_comm, mul-pos, mul-le-mul, mul-le-mul_right, le_of_mul-le-mul_right, add-mul, div-mul-le_self, div-add-mod', eq-zero-or-pos, arith, eqb→eq, ltb→lt, lit<, pow_pos}
 use Rattle.std.specs.Bool.{beq}
 use Prim.Native.Nat.{ℕ, zero, suc, ◌+◌, ◌-◌, ◌*◌, ◌/◌, ◌%◌, ◌^◌, ◌≤◌, ◌<◌, zero-le, compare, Ordering}
 use Rattle.std.proofs.Math.Nat.{mul-mul-mul_comm}

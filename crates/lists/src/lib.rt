@@ -1,11 +1,35 @@
-// What the programs that replay a list have in common: the list's words, the words lent to a call and
-// their hash, and the last line.
+// What the programs that replay a list have in common: the reading of so many bytes, the list's words, the words lent to
+// a call and their hash, and the last line.
 #![tactic(auto)]
-ghost use Rattle.std.specs.Prelude.{◌≡◌, length, replicate};
+
+ghost use Rattle.std.specs.Prelude.{◌≡◌, ◌<◌, ◌≤◌, IfOk, length, take, replicate};
+ghost use Rattle.std.specs.Io.KnownBytes.{Consumes, IsAtEnd};
 ghost use Rattle.lists.specs.Lists.{digit_of, word_at, mixed_of, hash_of};
+
+use std::io;
+use std::io::Read;
 
 // What every lent word is at first.
 pub const LENT: u32 = 0xa5a5a5a5;
+
+// Reads until the buffer is full or the input ends, and tells how many bytes it put at the buffer's start. A read that a
+// signal interrupts has failed.
+pub fn read_full<R: Read>(reader: &mut R, buf: &mut [u8]) -> io::Result<usize>
+    ensures len { length buf.new ≡ length buf.old }
+    ensures bound { IfOk result (λ n. n ≤ length buf.new) }
+    ensures bytes { IfOk result (λ n. Consumes (R.remaining reader.old) (R.remaining reader.new) (take n buf.new)) }
+    ensures end { IfOk result (λ n. n < length buf.new → IsAtEnd (R.remaining reader.new)) }
+{
+    let mut done: usize = 0;
+    while done < buf.len() {
+        let n = reader.read(&mut buf[done..])?;
+        if n == 0 {
+            return Ok(done);
+        }
+        done += n;
+    }
+    Ok(done)
+}
 
 // Below 16, whatever the byte.
 fn digit(b: u8) -> u32
@@ -60,19 +84,16 @@ pub fn hash(words: &[u32]) -> u32
     h
 }
 
-fn report(count: u64, what: &[u8], differ: u64) {
-    io::print_decimal(1, count);
-    io::write_all(1, what);
-    io::print_decimal(1, differ);
-    io::write_all(1, b" differ\n");
+fn report(rt: &impl Print, count: u64, what: &str, differ: u64) -> io::Result<()> {
+    println!(rt; "{count} {what}, {differ} differ")
 }
 
 // The last line of a list of single calls.
-pub fn report_vectors(count: u64, differ: u64) {
-    report(count, b" vectors, ", differ);
+pub fn report_vectors(rt: &impl Print, count: u64, differ: u64) -> io::Result<()> {
+    report(rt, count, "vectors", differ)
 }
 
 // The last line of a list of whole calls.
-pub fn report_scenes(count: u64, differ: u64) {
-    report(count, b" scenes, ", differ);
+pub fn report_scenes(rt: &impl Print, count: u64, differ: u64) -> io::Result<()> {
+    report(rt, count, "scenes", differ)
 }

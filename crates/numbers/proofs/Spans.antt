@@ -1,5 +1,5 @@
 -- The floor and the ceiling of a float at once, of its size and its sign. Assumes nothing.
-use Rattle.std.proofs.Common.{◌≡◌, ℕ, ◌+◌, ◌*◌, ◌<◌, ◌≤◌, Bool, true, false, cond, not, T, ltb, List, [], ◌∷◌, ℤ, pos, neg_ℤ, sym, refl, ap, ◌∙◌, subst, zero-mul, arith, ltb→lt, w32, to_z, of_z}
+use Rattle.std.proofs.Common.{◌≡◌, ℕ, ◌+◌, ◌*◌, ◌<◌, ◌≤◌, Bool, true, false, cond, not, T, ltb, [], ◌∷◌, ℤ, pos, neg_ℤ, refl, ◌∙◌, zero-mul, arith, ltb→lt, w32, to_z, of_z}
 use lib.Signed.{mag}
 use lib.Ieee.{Float, nan, inf, fin, binary32, up, down, neg, lt, fits, to_signed, to_unsigned, in_unsigned}
 use lib.Ieee.Fits.{neg-fits}

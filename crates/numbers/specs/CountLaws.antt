@@ -1,5 +1,5 @@
 -- A count of lines is a ceiling brought into 1 to 100: of what is at most 1, it is 1. Assumes nothing.
-use Rattle.std.specs.Prelude.{◌≡◌, ℕ, zero, suc, ◌+◌, ◌*◌, ◌<◌, ◌≤◌, Bool, true, false, not, ℤ, refl, Float}
+use Rattle.std.specs.Prelude.{◌≡◌, ℕ, zero, suc, ◌+◌, ◌*◌, ◌<◌, ◌≤◌, Bool, true, false, not, ℤ, refl}
 use Rattle.std.proofs.Common.{lt_of_mul-lt-mul_right, arith}
 use Rattle.std.specs.Float.{fin, binary32}
 use Rattle.std.specs.Float.Ieee.{up, down, round, lt}

@@ -2,11 +2,10 @@
 use Rattle.std.specs.Prelude.{◌≡◌, ℕ, zero, suc, ◌+◌, ◌-◌, ◌*◌, ◌/◌, ◌%◌, ◌^◌, ◌<◌, ◌≤◌, min, Bool, true, false, cond, not, T, ◌⊎◌, ℤ, pos, negsuc, neg_ℤ, nat_lt, Float}
 use Rattle.std.proofs.Math.Path.{refl}
 use Rattle.std.proofs.Common.{sym, ap, ◌∙◌, subst, inl, inr, mul-one, add-zero, mod-lt, div-one, div-add-mod', div-mul-le_self, suc-mul, le_trans, le_of_lt, le_of_eq, div-lt_iff_lt-mul, mul-div_cancel, add-one, arith, ltb→lt, nltb→le, lit≤, pow_pos}
-use Prim.Native.Nat.{compare}
 use Rattle.std.proofs.Math.Nat.{pow-succ'}
 use Rattle.std.proofs.Math.Arith.{digits_div}
-use Rattle.std.specs.Float.{nan, inf, fin, Format, binary32}
-use Rattle.std.specs.Float.Ieee.{prec, emax, low, up, down, size, nearest, odd, units, round, neg, fits, to_signed, to_unsigned}
+use Rattle.std.specs.Float.{nan, inf, fin, binary32}
+use Rattle.std.specs.Float.Ieee.{up, down, round, neg, fits, to_signed, to_unsigned}
 use Rattle.std.specs.Float.Ieee.Fits.{down_pos, round-fits, nan-fits, inf-fits}
 use Rattle.std.specs.Float.Ieee.Exact.{HasValue}
 use Rattle.std.specs.Float.Ieee.Back.{round_whole}

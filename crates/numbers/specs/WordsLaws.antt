@@ -1,5 +1,5 @@
 -- What signs, sizes and binary16 promise. Assumes nothing.
-use Rattle.std.specs.Prelude.{◌≡◌, ℕ, zero, suc, ◌+◌, ◌-◌, ◌*◌, ◌/◌, ◌%◌, ◌^◌, ◌<◌, Bool, true, false, cond, not, ◌&&◌, T, ◌==◌, nat_eq, refl, Float}
+use Rattle.std.specs.Prelude.{◌≡◌, ℕ, zero, suc, ◌+◌, ◌*◌, ◌/◌, ◌%◌, ◌^◌, ◌<◌, Bool, true, false, cond, not, ◌&&◌, T, ◌==◌, nat_eq, refl, Float}
 use Rattle.std.proofs.Common.{sym, ap, ◌∙◌, subst, mul_assoc, lt_irrefl, lt_of_lt_of_le, arith, pow_pos, pow-add, pow_mono, shl_lt, ne_eqb}
 use Rattle.std.proofs.Math.Dec.{eqb_refl}
 use Rattle.std.specs.Float.{nan, inf, fin, binary32}

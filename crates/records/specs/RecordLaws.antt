@@ -5,7 +5,7 @@ use Rattle.std.proofs.Math.Path.{refl}
 use Rattle.std.proofs.Common.{sym, ap, ◌∙◌, get_or-take, get_or-drop}
 use native.Mathlib.Omega.{arith}
 use Rattle.std.proofs.Math.ListN.{get_or-eq_default}
-use Rattle.records.specs.Record.{place_of, count, word, once, tally_of}
+use Rattle.records.specs.Record.{place_of, count, word, tally_of}
 
 -- behind the last word there are zeros
 pub past_end : (ws : List ℕ) (k i : ℕ) → length ws - place_of k ≤ i → 0 ≡ word ws k i

@@ -1,5 +1,6 @@
 // Why a call is refused, and the number of each refusal. No other place assigns numbers.
 #![tactic(auto)]
+
 ghost use Rattle.std.specs.Prelude.{◌≡◌};
 ghost use Rattle.refusals.specs.Refusals.{number_of, end_of};
 

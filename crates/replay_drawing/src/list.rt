@@ -3,6 +3,8 @@
 use crate::draw;
 use drawing::line::{Drawn, IntBbox};
 use lists::word;
+use std::io;
+use std::io::Read;
 
 // The bytes of a line, its end with them.
 const LINE: usize = 351;
@@ -49,30 +51,31 @@ fn is_right(lines: &mut [u32], line: &[u8; 351]) -> bool {
 }
 
 // One line of input: 0 if its answer is the one here, 1 if not, which it writes, and 2 at the end.
-fn replay(lines: &mut [u32; 188502]) -> u64 {
+fn replay<R: Read>(rt: &impl Print, input: &mut R, lines: &mut [u32; 188502]) -> io::Result<u64> {
     let mut line = [0u8; 351];
-    if io::read_full(0, &mut line) != LINE {
-        return 2;
+    if lists::read_full(input, &mut line)? != LINE {
+        return Ok(2);
     }
     if is_right(lines, &line) {
-        return 0;
+        return Ok(0);
     }
-    io::write_all(1, &line);
-    1
+    rt.write_all(&line)?;
+    Ok(1)
 }
 
-pub fn replay_all() {
+pub fn replay_all(rt: &(impl Input + Print)) -> io::Result<()> {
+    let mut input = rt.reader();
     // 31,417 lines.
     let mut lines = [0u32; 188502];
     let mut count: u64 = 0;
     let mut differ: u64 = 0;
     while count < MOST {
-        let r = replay(&mut lines);
+        let r = replay(rt, &mut input, &mut lines)?;
         if r > 1 {
             break;
         }
         differ += r;
         count += 1;
     }
-    lists::report_vectors(count, differ);
+    lists::report_vectors(rt, count, differ)
 }

@@ -1,6 +1,7 @@
 // Replays the list on standard input, which docs/ORACLE.md describes. Here are the numbers and points of a line, and the
 // calls of `drawing` and `curve` by their numbers in the list.
 #![tactic(auto)]
+
 mod list;
 
 use curve::flatten_euler;
@@ -10,6 +11,7 @@ use drawing::join::draw_join;
 use drawing::line::{Ink, Nib, Reach};
 use lists::word;
 use spiral::util::Vec2;
+use std::io;
 
 fn float(line: &[u8; 351], k: usize) -> f32 {
     maths::float_of(word(line, k))
@@ -141,6 +143,6 @@ fn draw(lines: &mut [u32], line: &[u8; 351]) -> Ink {
     }
 }
 
-fn main() {
-    list::replay_all();
+fn main(rt: HostRuntime) -> io::Result<()> {
+    list::replay_all(&rt)
 }

@@ -5,6 +5,8 @@ ghost use Rattle.std.specs.Prelude.{◌≤◌};
 use crate::{CallTold, Head, ScanTold, boxes_of, patch, put_boxes, read_head, read_words};
 use flatten::call::{Told, flatten_owned};
 use scene::tags::{Scanned, scan};
+use std::io;
+use std::io::Read;
 
 #[derive(Clone, Copy)]
 enum Replayed {
@@ -79,37 +81,39 @@ fn judged(whole: bool, same: bool) -> Replayed {
 
 // Reads what stands behind the head, in its order. Whether the list had all of it is asked last: a call
 // on less is safe too.
-fn replay_lent(
+fn replay_lent<R: Read>(
+    input: &mut R,
     head: Head,
     scene: &mut [u32],
     prefixes: &mut [u32],
     box_words: &mut [u32],
     lines: &mut [u32],
-) -> Replayed {
-    let has_scene = read_words(scene);
+) -> io::Result<Replayed> {
+    let has_scene = read_words(input, scene)?;
     let scanned = same_scan(head, scene, prefixes);
-    let has_patches = patch(prefixes, head.patches);
-    let has_boxes = read_words(box_words);
+    let has_patches = patch(input, prefixes, head.patches)?;
+    let has_boxes = read_words(input, box_words)?;
     let called = same_call(head, scene, prefixes, box_words, lines);
-    judged(has_scene & has_patches & has_boxes, scanned & called)
+    let whole = has_scene & has_patches & has_boxes;
+    Ok(judged(whole, scanned & called))
 }
 
-fn replay(head: Head) -> Replayed {
+fn replay<R: Read>(input: &mut R, head: Head) -> io::Result<Replayed> {
     let n_scene = head.scene;
     let n_prefixes = head.prefixes;
     let n_boxes = head.boxes;
     let n_lines = head.lines;
     if n_scene > SCENE {
-        return Replayed::Broken;
+        return Ok(Replayed::Broken);
     }
     if n_prefixes > PREFIXES {
-        return Replayed::Broken;
+        return Ok(Replayed::Broken);
     }
     if n_boxes > BOXES {
-        return Replayed::Broken;
+        return Ok(Replayed::Broken);
     }
     if n_lines > LINES {
-        return Replayed::Broken;
+        return Ok(Replayed::Broken);
     }
     let mut scene = [0u32; SCENE];
     let mut prefixes = [0u32; PREFIXES];
@@ -117,6 +121,7 @@ fn replay(head: Head) -> Replayed {
     let mut lines = [0u32; LINES];
     let n_box_words = n_boxes * 6;
     replay_lent(
+        input,
         head,
         &mut scene[..n_scene],
         &mut prefixes[..n_prefixes],
@@ -131,40 +136,35 @@ const HEAD: usize = 162;
 // More scenes than any list has.
 const MOST: u64 = 1000000;
 
-fn write_broken() {
-    io::write_all(
-        1,
-        b"the list ends inside a scene, or the scene is too large\n",
-    );
+fn write_broken(rt: &impl Print) -> io::Result<()> {
+    rt.println("the list ends inside a scene, or the scene is too large")
 }
 
 // A scene with another answer is found in the list by its head.
-fn write_other(r: Replayed, line: &[u8; 162]) {
+fn write_other(rt: &impl Print, r: Replayed, line: &[u8; 162]) -> io::Result<()> {
     match r {
-        Replayed::Same | Replayed::End => {}
-        Replayed::Differs => {
-            io::write_all(1, line);
-        }
+        Replayed::Same | Replayed::End => Ok(()),
+        Replayed::Differs => rt.write_all(line),
         Replayed::Broken => {
-            io::write_all(1, line);
-            write_broken();
+            rt.write_all(line)?;
+            write_broken(rt)
         }
     }
 }
 
-fn replay_next() -> Replayed {
+fn replay_next<R: Read>(rt: &impl Print, input: &mut R) -> io::Result<Replayed> {
     let mut line = [0u8; 162];
-    let n = io::read_full(0, &mut line);
+    let n = lists::read_full(input, &mut line)?;
     if n == 0 {
-        return Replayed::End;
+        return Ok(Replayed::End);
     }
     if n < HEAD {
-        write_broken();
-        return Replayed::Broken;
+        write_broken(rt)?;
+        return Ok(Replayed::Broken);
     }
-    let r = replay(read_head(&line));
-    write_other(r, &line);
-    r
+    let r = replay(input, read_head(&line))?;
+    write_other(rt, r, &line)?;
+    Ok(r)
 }
 
 fn differs(r: Replayed) -> u64
@@ -176,11 +176,12 @@ fn differs(r: Replayed) -> u64
     }
 }
 
-pub fn replay_all() {
+pub fn replay_all(rt: &(impl Input + Print)) -> io::Result<()> {
+    let mut input = rt.reader();
     let mut count: u64 = 0;
     let mut differ: u64 = 0;
     while count < MOST {
-        let r = replay_next();
+        let r = replay_next(rt, &mut input)?;
         if let Replayed::End = r {
             break;
         }
@@ -190,5 +191,5 @@ pub fn replay_all() {
             break;
         }
     }
-    lists::report_scenes(count, differ);
+    lists::report_scenes(rt, count, differ)
 }

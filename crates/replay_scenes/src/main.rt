@@ -1,6 +1,7 @@
 // Replays the scenes of the list on standard input, which docs/ORACLE.md describes. Here is what stands in the list: heads,
 // the words behind them, and boxes.
 #![tactic(auto)]
+
 ghost use Rattle.std.specs.Prelude.{◌≤◌};
 
 mod list;
@@ -8,6 +9,8 @@ mod list;
 use flatten::boxes::PathBox;
 use flatten::call::Layout;
 use lists::word;
+use std::io;
+use std::io::Read;
 
 // ---- the head of a scene: how much is given and lent, and what is told
 
@@ -98,14 +101,14 @@ struct Piece {
     behind: u8,
 }
 
-fn read_piece() -> Piece {
+fn read_piece<R: Read>(input: &mut R) -> io::Result<Piece> {
     let mut text = [0u8; 9];
-    let n = io::read_full(0, &mut text);
-    Piece {
+    let n = lists::read_full(input, &mut text)?;
+    Ok(Piece {
         found: n == 9,
         word: lists::word(&text, 0),
         behind: text[8],
-    }
+    })
 }
 
 fn wide(w: u32) -> usize {
@@ -113,15 +116,15 @@ fn wide(w: u32) -> usize {
 }
 
 // How often a word stands: never where the list has ended.
-fn times(p: Piece) -> usize {
+fn times<R: Read>(input: &mut R, p: Piece) -> io::Result<usize> {
     if !p.found {
-        return 0;
+        return Ok(0);
     }
     if p.behind != b'*' {
-        return 1;
+        return Ok(1);
     }
-    let next = read_piece();
-    if next.found { wide(next.word) } else { 0 }
+    let next = read_piece(input)?;
+    Ok(if next.found { wide(next.word) } else { 0 })
 }
 
 fn none_above(most: usize, n: usize) -> usize
@@ -131,37 +134,37 @@ fn none_above(most: usize, n: usize) -> usize
 }
 
 // Puts the next words of the list there. Not if it has fewer, or a run that goes on behind.
-fn read_words(words: &mut [u32]) -> bool {
+fn read_words<R: Read>(input: &mut R, words: &mut [u32]) -> io::Result<bool> {
     let mut at: usize = 0;
     while at < words.len() {
-        let piece = read_piece();
-        let n = none_above(words.len() - at, times(piece));
+        let piece = read_piece(input)?;
+        let n = none_above(words.len() - at, times(input, piece)?);
         if n == 0 {
-            return false;
+            return Ok(false);
         }
         let end = at + n;
         lists::fill(&mut words[at..end], piece.word);
         at = end;
     }
-    true
+    Ok(true)
 }
 
 // Changes words, each by its place and the word of the list behind that.
-fn patch(words: &mut [u32], patches: usize) -> bool {
+fn patch<R: Read>(input: &mut R, words: &mut [u32], patches: usize) -> io::Result<bool> {
     let mut k: usize = 0;
     while k < patches {
         let mut pair = [0u32; 2];
-        if !read_words(&mut pair) {
-            return false;
+        if !read_words(input, &mut pair)? {
+            return Ok(false);
         }
         let at = wide(pair[0]);
         if words.len() <= at {
-            return false;
+            return Ok(false);
         }
         words[at] = pair[1];
         k += 1;
     }
-    true
+    Ok(true)
 }
 
 // ---- boxes as words of the list, six to a box
@@ -234,6 +237,6 @@ fn put_boxes(words: &mut [u32], boxes: [PathBox; 64]) {
     }
 }
 
-fn main() {
-    list::replay_all();
+fn main(rt: HostRuntime) -> io::Result<()> {
+    list::replay_all(&rt)
 }

@@ -2,6 +2,8 @@
 // Writes each line whose answer is another here, and last how many lines there were and how many differ.
 use crate::{Answer, run};
 use lists::word;
+use std::io;
+use std::io::Read;
 
 // The bytes of a line, its end with them.
 const LINE: usize = 135;
@@ -45,28 +47,29 @@ fn is_right(line: &[u8; 135]) -> bool {
 }
 
 // One line of input: 0 if its answer is the one here, 1 if not, which it writes, and 2 at the end.
-fn replay() -> u64 {
+fn replay<R: Read>(rt: &impl Print, input: &mut R) -> io::Result<u64> {
     let mut line = [0u8; 135];
-    if io::read_full(0, &mut line) != LINE {
-        return 2;
+    if lists::read_full(input, &mut line)? != LINE {
+        return Ok(2);
     }
     if is_right(&line) {
-        return 0;
+        return Ok(0);
     }
-    io::write_all(1, &line);
-    1
+    rt.write_all(&line)?;
+    Ok(1)
 }
 
-pub fn replay_all() {
+pub fn replay_all(rt: &(impl Input + Print)) -> io::Result<()> {
+    let mut input = rt.reader();
     let mut count: u64 = 0;
     let mut differ: u64 = 0;
     while count < MOST {
-        let r = replay();
+        let r = replay(rt, &mut input)?;
         if r > 1 {
             break;
         }
         differ += r;
         count += 1;
     }
-    lists::report_vectors(count, differ);
+    lists::report_vectors(rt, count, differ)
 }

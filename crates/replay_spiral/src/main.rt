@@ -1,11 +1,13 @@
 // Replays the list on standard input, which docs/ORACLE.md describes. Here are the calls of `spiral` by their numbers in
 // the list.
 #![tactic(auto)]
+
 mod list;
 
 use spiral::euler::{CubicParams, EulerParams, EulerSeg};
 use spiral::util::Vec2;
 use spiral::{euler, util};
+use std::io;
 
 // A call's answer: zeros behind its own numbers.
 #[derive(Clone, Copy)]
@@ -93,6 +95,6 @@ fn run(call: u32, v: [f32; 10]) -> Answer {
     }
 }
 
-fn main() {
-    list::replay_all();
+fn main(rt: HostRuntime) -> io::Result<()> {
+    list::replay_all(&rt)
 }

@@ -1,5 +1,5 @@
 -- How large a root is at most, and how large at least. Assumes nothing.
-use Rattle.std.specs.Prelude.{◌≡◌, ℕ, zero, suc, ◌+◌, ◌*◌, ◌/◌, ◌^◌, ◌<◌, ◌≤◌, Bool, true, false, not, T, ℤ, pos, ◌≢◌, refl, Float}
+use Rattle.std.specs.Prelude.{◌≡◌, ℕ, zero, suc, ◌+◌, ◌*◌, ◌^◌, ◌<◌, ◌≤◌, Bool, true, false, not, T, ℤ, pos, ◌≢◌, refl, Float}
 use Rattle.std.proofs.Common.{sym, ap, ◌∙◌, subst, inl, inr, le_trans, le_of_eq, le_of_lt, lt_of_lt_of_le, lt_of_le_of_lt, lt_of_not-le, lt_irrefl, le_of_suc-le-suc, mul-pos, mul-le-mul, mul-le-mul_right, le_of_mul-le-mul_right, mul_assoc, mul_right_comm, mul-lt-mul_of_pos_right, lt_of_mul-lt-mul_right, one-mul, mul-one, div-mul-le_self, le-div_iff_mul-le, pow-suc, arith, lit<, pow_pos}
 use Rattle.std.proofs.Math.Nat.{mul-mul-mul_comm, pow-zero, pow-lt-pow_left}
 use Rattle.std.proofs.Math.Decide.{dec_lt}

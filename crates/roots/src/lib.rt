@@ -7,6 +7,7 @@
 // `cube` and all that it calls keep to products of 32 binary digits and to f32: `guess` makes its candidates, `narrow` checks them by parts.
 // An f32 pattern has its exponent from 2 ^ 23 on, 0x80_0000, and from 0x7f80_0000 on it is no finite number's.
 #![tactic(auto)]
+
 mod cube;
 mod format;
 mod guess;

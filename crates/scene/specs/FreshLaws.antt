@@ -1,12 +1,12 @@
 -- With a fresh scan, a tag is its byte and the sums over the tags before it. Assumes nothing.
-use Rattle.std.specs.Prelude.{◌≡◌, ℕ, zero, suc, ◌+◌, ◌-◌, ◌*◌, ◌/◌, ◌%◌, ◌^◌, ◌<◌, ◌≤◌, min, Bool, true, false, cond, List, [], ◌∷◌, ◌++◌, length, drop, ◌==◌, nat_eq, nat_lt, slice_index, slice_index_or}
+use Rattle.std.specs.Prelude.{◌≡◌, ℕ, zero, suc, ◌+◌, ◌-◌, ◌*◌, ◌/◌, ◌%◌, ◌^◌, ◌<◌, ◌≤◌, min, Bool, true, false, cond, List, length, drop, ◌==◌, nat_eq, nat_lt, slice_index, slice_index_or}
 use Rattle.std.proofs.Math.Path.{refl, ap}
-use Rattle.std.proofs.Common.{sym, ◌∙◌, subst, length-drop, get_or-append-add, get_or-drop}
+use Rattle.std.proofs.Common.{sym, ◌∙◌, length-drop, get_or-append-add, get_or-drop}
 use native.Mathlib.Omega.{arith}
 use Rattle.std.proofs.Math.Decide.{ℕ_discrete}
 use Rattle.std.proofs.Math.ListN.{length-append, get_or-append}
 use borrow.Author.Tests.{lt-ltb, le-leb, ltb-true}
-use Rattle.refusals.specs.Refusals.{Read, found, refused}
+use Rattle.refusals.specs.Refusals.{found, refused}
 use Rattle.refusals.specs.declared.Refusal.TheVariants as refusal
 use Rattle.scene.specs.Words.{word_at}
 use Rattle.scene.specs.Tags.{sums, tag_sums, plus, byte_at, tag_data, sums_below, word_sums, sums_before, four_words, prefixes, prefix_at, with_prefix, tag_in, tag_of, scan_of, filled}

@@ -1,5 +1,6 @@
 // What a segment draws: a fill, a stroke, or the cap where a stroke starts.
 #![tactic(auto)]
+
 ghost use Rattle.std.specs.Prelude.{◌≡◌};
 ghost use Rattle.drawing.specs.Page.{Drew};
 ghost use Rattle.segment.specs.Segment.{quarter, steady_of, neighbor_of, tangents_of, edges_of, sides_events, end_events, stroke_events, start_cap_events, fill_events, shape_events};

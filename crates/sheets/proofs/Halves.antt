@@ -1,15 +1,14 @@
 -- The candidate for a coordinate's 16 bits is right where it goes back. Assumes nothing.
-use Prim.Native.Nat.{ℕ, zero, suc, ◌+◌, ◌-◌, ◌*◌, ◌/◌, ◌%◌, ◌^◌, ◌<◌, ◌≤◌}
+use Prim.Native.Nat.{ℕ, zero, suc, ◌-◌, ◌^◌, ◌<◌, ◌≤◌}
 use mathlib.Core.Path.{◌≡◌, refl, sym, ap, ◌∙◌}
-use mathlib.Core.Bool.{Bool, true, false, not, cond}
-use mathlib.Core.List.{List, [], ◌∷◌, ◌++◌}
+use mathlib.Core.Bool.{Bool, true, false, cond}
 use native.Mathlib.Omega.{arith}
-use lib.Dec.{T, leb, ltb, eqb, le→leb}
-use lib.IntN.{ℤ, pos, negsuc}
-use lib.Ieee.{Float, nan, inf, fin, binary32, of_bits, to_bits, of_int, neg, to_unsigned, in_float}
+use lib.Dec.{ltb, eqb, le→leb}
+use lib.IntN.{pos}
+use lib.Ieee.{Float, binary32, of_bits, to_bits, of_int, neg, to_unsigned, in_float}
 use lib.Ieee.Exact.{HasValue}
 use lib.Ieee.Back.{round_whole, unsigned_back}
-use borrow.Author.Tests.{lt-ltb, le-ltb, ltb-true, ltb-false, eqb-true, eq-eqb, ne_eqb}
+use borrow.Author.Tests.{le-ltb, ltb-true, ltb-false, eq-eqb, ne_eqb}
 use Rattle.maths.specs.Numbers.{sign_of, abs_of, plus_size}
 use Rattle.scene.specs.Reading.{i16_of}
 use Rattle.sheets.specs.Moving.{goes_back, half_word}

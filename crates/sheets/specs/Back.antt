@@ -1,18 +1,17 @@
 -- There and back: to i16 of what was moved to f32 gives the old tags and words; and an f32 sheet goes back exactly when each counted coordinate does. Assumes nothing.
-use Rattle.std.specs.Prelude.{ℕ, zero, suc, ◌+◌, ◌-◌, ◌*◌, ◌/◌, ◌%◌, ◌^◌, ◌<◌, ◌≤◌, ◌≡◌, refl, ◌↔◌, Bool, true, false, not, ◌&&◌, ◌||◌, cond, List, [], ◌∷◌, ◌++◌, map, T, leb, ltb, eqb, ℤ, pos, negsuc, length, take, get_or, Float}
-use Rattle.std.proofs.Common.{sym, ap, ◌∙◌, subst, arith, le→leb, lt→ltb, length-take, length-append, get_or-take, take_at, length-take-le, leb-true, le-leb, ltb-true, ltb-false, lt-ltb, le-ltb, eqb-true, eq-eqb}
-use Rattle.std.proofs.lemmas.List.{length-map, take-append-le}
+use Rattle.std.specs.Prelude.{ℕ, zero, suc, ◌+◌, ◌-◌, ◌*◌, ◌/◌, ◌%◌, ◌^◌, ◌<◌, ◌≤◌, ◌≡◌, refl, ◌↔◌, Bool, true, false, not, ◌||◌, cond, List, [], ◌∷◌, ◌++◌, map, T, leb, ltb, eqb, ℤ, pos, negsuc, length, take, get_or, Float}
+use Rattle.std.proofs.Common.{sym, ap, ◌∙◌, subst, arith, le→leb, lt→ltb, length-append, get_or-take, take_at, length-take-le, leb-true, le-leb, ltb-true, ltb-false, lt-ltb, le-ltb, eq-eqb}
+use Rattle.std.proofs.lemmas.List.{length-map}
 use Rattle.std.specs.Float.{binary32, nan, inf, fin}
-use Rattle.std.specs.Float.Ieee.{of_bits, to_bits, of_int, neg, round, to_signed, in_signed, in_float, is_nan}
+use Rattle.std.specs.Float.Ieee.{of_bits, to_bits, of_int, neg, to_signed, in_signed, in_float, is_nan}
 use Rattle.std.specs.Int.Signed.{mag}
 use Rattle.std.specs.Float.Ieee.Bits.{is_true, of_bits-fits, to_bits-of_bits}
 use Rattle.std.specs.Float.Ieee.Casts.{to_signed_in}
 use Rattle.std.specs.Float.Ieee.Back.{positive_back, negative_back, Float-back_signed}
-use Rattle.std.proofs.lemmas.Bool.{lt-leb}
 use Rattle.laws.specs.Neg.{round_neg}
 use Rattle.scene.specs.Reading.{i16_of}
 use Rattle.scene.specs.Points.{i16_exact}
-use Rattle.sheets.specs.Moving.{counts, counts_none, is_old, is_new, new_tag, old_tag, total, x_word, y_word, new_points, goes_back, half, half_word, old_points, Answer, moved, refused, lead, unless, all, room, to_f32, to_i16}
+use Rattle.sheets.specs.Moving.{counts, is_old, is_new, new_tag, old_tag, total, x_word, y_word, new_points, goes_back, half, half_word, old_points, Answer, moved, lead, unless, all, room, to_f32, to_i16}
 use Rattle.sheets.specs.Turned.{MovedByte, moved_byte}
 
 -- ---- tests over a list

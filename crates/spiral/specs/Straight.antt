@@ -1,6 +1,6 @@
 -- A range that is nearly straight: how large the angles, the error and the spiral's numbers are at most, from the slopes of the tangents against the chord.
 -- Assumes nothing.
-use Rattle.std.specs.Prelude.{◌≡◌, refl, Bool, true, false, not, cond, ℕ, ◌^◌, pos, T, Float}
+use Rattle.std.specs.Prelude.{◌≡◌, refl, Bool, true, false, cond, ℕ, pos, T, Float}
 use Rattle.std.proofs.Common.{sym}
 use Rattle.std.proofs.Math.Path.{subst}
 use Rattle.std.specs.Float.{fin, binary32}

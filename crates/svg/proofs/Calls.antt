@@ -2,10 +2,9 @@
 use mathlib.Core.Path.{◌≡◌, sym, ap, ◌∙◌}
 use mathlib.Core.Bool.{Bool, true, false}
 use mathlib.Core.List.{List, [], ◌∷◌}
-use Prim.Native.Nat.{ℕ, ◌+◌}
+use Prim.Native.Nat.{ℕ}
 use borrow.Author.Tests.{eq-eqb, ne_eqb}
-use lib.Dec.{eqb}
-use Rattle.pattern.specs.Commands.{Command, move, end, Outcome, outcome, number_of, told as drewTold}
+use Rattle.pattern.specs.Commands.{Command, move, Outcome, outcome, number_of, told as drewTold}
 use Rattle.pattern.specs.Commands.{command_of as drawn}
 use Rattle.pattern.specs.Meaning.{next}
 use Rattle.pattern.specs.declared.pen.Pen.{Pen}
@@ -22,7 +21,7 @@ use Rattle.svg.specs.Language.{pick, arity}
 use Rattle.svg.specs.Machine.{finished, in_number, number_of as decimalIn}
 use Rattle.svg.specs.Meaning.{word_of, all_of}
 use Rattle.svg.specs.Import.{Told, told, stop}
-use Rattle.svg.specs.Hands.{six_command, restarts_by, hand_commands, command_by, counted, onward}
+use Rattle.svg.specs.Hands.{six_command, restarts_by, command_by, counted, onward}
 use Rattle.svg.specs.Walk.{walk, Left, left, settled_by, settled, number_with, number_by, ending_of, over_by, then_over, last_by}
 use Rattle.svg.proofs.Reading.{pick_yes, pick_no}
 

@@ -1,13 +1,13 @@
 -- Byte by byte, with a hand of six numbers, comes to what importing is defined as: item by item, with the numbers of a group in a list. Assumes nothing.
-use mathlib.Core.Path.{◌≡◌, refl, sym, ap, ◌∙◌, subst}
+use mathlib.Core.Path.{◌≡◌, refl, sym, ap, ◌∙◌}
 use mathlib.Core.Bool.{Bool, true, false}
 use mathlib.Core.List.{List, [], ◌∷◌, ◌++◌}
-use Prim.Native.Nat.{ℕ, zero, suc, ◌+◌, ◌≤◌, ◌<◌}
+use Prim.Native.Nat.{ℕ, suc, ◌+◌}
 use native.Mathlib.Omega.{arith}
 use borrow.Author.Tests.{eqb-true}
 use lib.Dec.{eqb}
 use lib.ListN.{length, length-append}
-use Rattle.pattern.specs.Commands.{Command, move, draw, line, quad, cubic, end, Outcome, outcome, number_of, command_of}
+use Rattle.pattern.specs.Commands.{Command, move, end, Outcome, outcome, number_of}
 use Rattle.pattern.specs.Meaning.{next}
 use Rattle.pattern.specs.declared.pen.Spot.{Spot}
 use Rattle.pattern.specs.declared.pen.Pen.{Pen}
@@ -25,16 +25,14 @@ use Rattle.svg.specs.declared.hand.Six.{Six}
 use Rattle.svg.specs.declared.hand.Hand.{Hand}
 use Rattle.svg.specs.declared.reader.Ending.TheVariants.{Faulty, Undrawn}
 use Rattle.svg.specs.declared.reader.Done.{Done}
-use Rattle.svg.specs.declared.reader.Walk.{Walk}
-use Rattle.svg.specs.declared.reader.Way.{Way}
 use Rattle.svg.specs.declared.reader.Way.TheVariants.{On, Over}
-use Rattle.svg.specs.Language.{pick, arity, behind, Decimal, Item, letter, number, close, symbols, symbol_of, next as nextHave}
+use Rattle.svg.specs.Language.{pick, arity, behind, Decimal, number, symbols, next as nextHave}
 use Rattle.svg.specs.Machine.{Run, over, said, does, runs, begun, moved, ended, finished, in_number, last, number_of as decimalIn}
-use Rattle.svg.specs.Meaning.{word_of, home_of, restart, commands_of, origin, all_of}
+use Rattle.svg.specs.Meaning.{word_of, home_of, restart, commands_of, all_of}
 use Rattle.svg.specs.Meaning.{command_of as group_of}
 use Rattle.svg.specs.Import.{Told, told, stop, go_on, import_from, import_of}
-use Rattle.svg.specs.Hands.{six, pushed, hand, six_command, restarts_by, hand_commands, command_by, home_by, lettered, counted, onward, closed}
-use Rattle.svg.specs.Walk.{walk, read_by, Left, left, way_of, settled, number_with, number_by, act_by, step_by, then_step, one_by, over_with, over_by, then_over, last_by, one_more, last_one, read_into, start_of}
+use Rattle.svg.specs.Hands.{pushed, hand, six_command, restarts_by, hand_commands, command_by, home_by, lettered, counted, onward, closed}
+use Rattle.svg.specs.Walk.{walk, read_by, Left, left, settled, number_with, number_by, act_by, step_by, then_step, over_with, over_by, then_over, read_into, start_of}
 
 -- ---- the last six numbers, and the numbers of a group
 

@@ -1,16 +1,14 @@
 -- At a letter and at a comma, white space and what is not. Assumes nothing.
-use mathlib.Core.Path.{◌≡◌, refl, sym, ap, subst}
+use mathlib.Core.Path.{◌≡◌, refl, sym, subst}
 use mathlib.Core.Bool.{Bool, true, false}
-use Prim.Native.Nat.{ℕ, ◌+◌, ◌^◌, ◌≤◌, ◌<◌}
+use Prim.Native.Nat.{ℕ}
 use native.Mathlib.Omega.{arith}
 use lib.Dec.{T}
 use Rattle.svg.specs.declared.steps.Kind.{Kind}
 use Rattle.svg.specs.declared.steps.Symbol.{Symbol}
 use Rattle.svg.specs.declared.steps.Symbol.TheVariants.{White, Comma, Sign, Dot, Digit, Letter, Close, Other}
-use Rattle.svg.specs.declared.steps.Place.{Place}
 use Rattle.svg.specs.declared.steps.Place.TheVariants.{AtLetter, AtComma}
 use Rattle.svg.specs.declared.steps.Num.{Num}
-use Rattle.svg.specs.declared.steps.Step.{Step}
 use Rattle.svg.specs.declared.steps.Step.TheVariants.{Go}
 use Rattle.svg.specs.Machine.{Held, num, st, move, opens_of, is_white}
 

@@ -1,16 +1,13 @@
 -- Bytes and their symbols, and room for one more digit. Assumes nothing.
-use mathlib.Core.Path.{◌≡◌, refl, sym, ap, ◌∙◌, subst}
+use mathlib.Core.Path.{◌≡◌, refl, sym, ap, ◌∙◌}
 use mathlib.Core.Bool.{Bool, true, false, false≢true}
-use Prim.Native.Nat.{ℕ, suc, ◌+◌, ◌-◌, ◌*◌, ◌^◌, ◌≤◌, ◌<◌}
+use Prim.Native.Nat.{ℕ, ◌+◌, ◌-◌, ◌^◌, ◌≤◌, ◌<◌}
 use native.Mathlib.Nat.{lt_of_lt_of_le, pow-le-pow_right}
 use native.Mathlib.Omega.{arith}
-use borrow.Author.Tests.{ne_eqb, lt-ltb, le-ltb, ltb-true, ltb-false, leb-true, leb-false}
-use lib.Dec.{ltb, leb, eqb}
-use Rattle.svg.specs.declared.steps.Symbol.{Symbol}
-use Rattle.svg.specs.declared.steps.Symbol.TheVariants.{White, Comma, Sign, Dot, Digit, Letter, Close, Other}
-use Rattle.svg.specs.declared.steps.Num.{Num}
+use borrow.Author.Tests.{ne_eqb, lt-ltb, le-ltb, ltb-false, leb-true}
+use lib.Dec.{ltb, leb}
+use Rattle.svg.specs.declared.steps.Symbol.TheVariants.{White, Digit, Other}
 use Rattle.svg.specs.Language.{pick, symbol_of, mark_of, letter_of, white_byte, digit_byte}
-use Rattle.svg.specs.Machine.{Held}
 
 pub pick_no : {A : Type 0} (t : Bool) (x y : A) → t ≡ false → pick t x y ≡ y
 pick_no t x y e = ap (λ (t : Bool). pick t x y) e

@@ -2,12 +2,10 @@
 use mathlib.Core.Path.{◌≡◌, refl, sym, ap, ◌∙◌, subst}
 use mathlib.Core.Bool.{Bool, true, false}
 use Prim.Native.Nat.{ℕ, suc, ◌+◌, ◌*◌, ◌^◌, ◌≤◌, ◌<◌}
-use native.Mathlib.Nat.{pow-suc, lt_of_lt_of_le, le_of_eq}
+use native.Mathlib.Nat.{pow-suc}
 use native.Mathlib.Omega.{arith}
-use borrow.Author.Tests.{ltb-true, eqb-true, eqb-false}
+use borrow.Author.Tests.{ltb-true, eqb-false}
 use lib.Dec.{ltb, eqb}
-use lib.ListN.{length, set}
-use mathlib.Core.List.{List, [], ◌∷◌}
 use Rattle.svg.specs.declared.steps.Kind.{Kind}
 use Rattle.svg.specs.declared.steps.Kind.TheVariants.{Move, Line, Quad, Cubic}
 use Rattle.svg.specs.declared.steps.Symbol.{Symbol}
@@ -16,11 +14,11 @@ use Rattle.svg.specs.declared.steps.Place.{Place}
 use Rattle.svg.specs.declared.steps.Place.TheVariants.{AtStart, AtLetter, AtSign, InWhole, AtPoint, InFraction, AtGap, AtComma, AtClose}
 use Rattle.svg.specs.declared.steps.Num.{Num}
 use Rattle.svg.specs.declared.steps.State.{State}
-use Rattle.svg.specs.declared.steps.Fault.TheVariants.{NotInLanguage, TooLong}
+use Rattle.svg.specs.declared.steps.Fault.TheVariants.{TooLong}
 use Rattle.svg.specs.declared.steps.Step.{Step}
 use Rattle.svg.specs.declared.steps.Step.TheVariants.{Go, Lettered, Shut, Bad}
 use Rattle.svg.specs.Language.{pick, by, arity, next}
-use Rattle.svg.specs.Machine.{Held, Sound, num, st, digit_of, whole_digit, fraction_digit, first_letter, opening, gap_letter, gap_close, move, moved, ended, finished}
+use Rattle.svg.specs.Machine.{Held, Sound, num, st, digit_of, whole_digit, fraction_digit, first_letter, opening, move, moved, finished}
 use Rattle.svg.proofs.Places.{fresh}
 
 abbrev pub SoundStep : Step → Type 0

@@ -2,7 +2,7 @@
 use mathlib.Core.Path.{◌≡◌, refl}
 use mathlib.Core.Bool.{Bool, true, false}
 use mathlib.Core.List.{List}
-use Prim.Native.Nat.{ℕ, ◌+◌, ◌≤◌, ◌<◌}
+use Prim.Native.Nat.{ℕ, ◌≤◌, ◌<◌}
 use native.Mathlib.Omega.{arith}
 use borrow.Author.Tests.{eqb-false}
 use lib.Dec.{eqb}
@@ -20,8 +20,8 @@ use Rattle.svg.specs.Language.{pick, arity, behind}
 use Rattle.svg.specs.Machine.{moved, ended, finished, number_of, digit_of}
 use Rattle.svg.specs.Machine.{Sound as SoundState}
 use Rattle.svg.specs.Meaning.{word_of}
-use Rattle.svg.specs.Hands.{command_by, lettered, counted, onward, closed}
-use Rattle.svg.specs.Walk.{walk, read_by, Left, left, way_of, number_with, number_by, act_by, step_by, then_step, one_by, Sound}
+use Rattle.svg.specs.Hands.{command_by, counted, onward}
+use Rattle.svg.specs.Walk.{walk, Left, left, way_of, number_by, act_by, step_by, then_step, one_by, Sound}
 use Rattle.svg.proofs.Sounds.{SoundStep, arity_pos, finished_sound, moved_sound}
 
 abbrev pub SoundWay : Way → Type 0

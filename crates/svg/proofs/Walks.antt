@@ -1,7 +1,7 @@
 -- The loop of the reader: what is left of the text comes to the same. Assumes nothing.
 use mathlib.Core.Path.{◌≡◌, refl, sym, ap, ◌∙◌, subst}
 use mathlib.Core.Bool.{Bool, true, false, false≢true}
-use mathlib.Core.List.{List, [], ◌∷◌}
+use mathlib.Core.List.{List, ◌∷◌}
 use Prim.Native.Nat.{ℕ, suc, ◌+◌, ◌-◌, ◌*◌, ◌≤◌, ◌<◌}
 use native.Mathlib.Nat.{le_antisymm}
 use native.Mathlib.Numerals.{add-one}
@@ -28,7 +28,7 @@ use Rattle.svg.specs.Machine.{number_of, moved, ended, finished, in_number, digi
 use Rattle.svg.specs.Machine.{Sound as SoundState}
 use Rattle.svg.specs.Meaning.{word_of}
 use Rattle.svg.specs.Hands.{command_by, counted, onward}
-use Rattle.svg.specs.Import.{Told, told, import_of}
+use Rattle.svg.specs.Import.{told, import_of}
 use Rattle.svg.specs.Walk.{walk, read_by, Left, left, settled, number_by, act_by, then_step, one_by, last_by, read_into, start_of, Sound}
 use Rattle.svg.specs.Stretch.{Onward}
 use Rattle.svg.proofs.Reading.{pick_yes, pick_no, digit_bounds}

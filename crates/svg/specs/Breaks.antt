@@ -1,7 +1,6 @@
 -- Where a text is refused with 60: the bytes before the one that is told begin a text of the language, and with it they begin none (`stop_byte`). Assumes nothing.
 use Rattle.std.specs.Prelude.{◌≡◌, refl, Bool, true, false, List, [], ◌∷◌, ◌++◌, ℕ, zero, suc, ◌+◌, ◌≤◌, ◌<◌, eqb, ltb, length, take}
-use Rattle.std.proofs.Common.{sym, ap, ◌∙◌, subst, append-nil, arith}
-use Rattle.std.proofs.Math.Seq.{take-length}
+use Rattle.std.proofs.Common.{sym, ap, ◌∙◌, subst, arith}
 use Rattle.pattern.specs.declared.pen.Pen.{Pen}
 use Rattle.svg.specs.declared.steps.Kind.{Kind}
 use Rattle.svg.specs.declared.steps.Kind.TheVariants.{Move, Line, Quad, Cubic}
@@ -21,15 +20,15 @@ use Rattle.svg.specs.declared.reader.Ending.{Ending}
 use Rattle.svg.specs.declared.reader.Ending.TheVariants.{Faulty}
 use Rattle.svg.specs.Language.{pick, by, Item, symbols, symbol_of, next}
 use Rattle.svg.specs.Language.{Text as IsText}
-use Rattle.svg.specs.Machine.{num, whole_digit, fraction_digit, first_letter, opening, move, moved, finished, ended, in_number, last, gap_last, begun}
-use Rattle.svg.specs.Fold.{Answer, Turn, Going, Stopped, settle, turn_of, closing, verdict_from}
+use Rattle.svg.specs.Machine.{num, whole_digit, fraction_digit, first_letter, opening, move, moved, finished, ended, in_number, last, begun}
+use Rattle.svg.specs.Fold.{Turn, Going, Stopped, settle, turn_of, closing, verdict_from}
 use Rattle.svg.specs.Unique.{verdict_is, verdict_stays}
 use Rattle.svg.specs.Unique.{end_of as verdict_of}
 use Rattle.svg.specs.GoesOn.{after, no_text_goes_on, never, text_verdict}
 use Rattle.svg.specs.First.{some_text_goes_on}
-use Rattle.svg.specs.Said.{end_in, answer_in, run_is}
+use Rattle.svg.specs.Said.{end_in, run_is}
 use Rattle.svg.specs.Import.{import_of}
-use Rattle.svg.specs.Imports.{Ends, accepted, faulty, undrawn, Stands, run_of, import_stands}
+use Rattle.svg.specs.Imports.{Ends, accepted, faulty, undrawn, run_of, import_stands}
 
 -- ---- the table tells its own byte
 

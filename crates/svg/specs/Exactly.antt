@@ -1,5 +1,5 @@
 -- The automaton accepts no other texts: what it reads is the text of what it says (`accepted_is_text`). With `reads`, it accepts exactly the texts of the language. Assumes nothing.
-use Rattle.std.specs.Prelude.{◌≡◌, Bool, true, false, ℕ, zero, suc, ◌+◌, ◌*◌, ◌≤◌, ◌<◌, T, ltb, eqb, length}
+use Rattle.std.specs.Prelude.{◌≡◌, Bool, true, false, ℕ, suc, ◌+◌, ◌*◌, ◌≤◌, T, ltb, eqb, length}
 use Rattle.std.proofs.Math.Path.{refl, subst}
 use Rattle.std.proofs.Common.{sym, ap, ◌∙◌, arith}
 use mathlib.Core.List.{List, [], ◌∷◌}
@@ -14,11 +14,10 @@ use Rattle.svg.specs.declared.steps.Num.{Num}
 use Rattle.svg.specs.declared.steps.State.{State}
 use Rattle.svg.specs.declared.steps.Fault.{Fault}
 use Rattle.svg.specs.declared.steps.Fault.TheVariants.{NotInLanguage, TooLong}
-use Rattle.svg.specs.declared.steps.Step.{Step}
 use Rattle.svg.specs.declared.steps.Step.TheVariants.{Go, Lettered, Shut, Bad}
 use Rattle.svg.specs.declared.steps.Verdict.{Verdict}
 use Rattle.svg.specs.declared.steps.Verdict.TheVariants.{Accepted, Refused}
-use Rattle.svg.specs.Language.{pick, Decimal, dec, Item, letter, number, close, next, Signs, bare, sign, signed, negative, digits, onto, Number, plain, pointed, spell, value_of, Short, ends, is_digit, is_dot, spaces, Gap, blank, comma, Stage, opening, lettered, numbered, closed, Rest, nothing, begins, first, more, turns, closes, stops, opens, again, over, Text, symbols}
+use Rattle.svg.specs.Language.{pick, dec, Item, letter, number, close, next, Signs, bare, sign, signed, negative, digits, onto, Number, plain, pointed, spell, value_of, Short, ends, spaces, blank, comma, Stage, opening, lettered, numbered, closed, Rest, nothing, begins, first, more, turns, closes, stops, opens, again, over, Text, symbols}
 use Rattle.svg.specs.Machine.{num, st, number_of, begun, gap_last}
 use Rattle.svg.specs.Fold.{Answer, answer, says, onward, run}
 

@@ -1,6 +1,6 @@
 -- Until the reader stops, some text goes on (`some_text_goes_on`): so a refusal is told at the first byte from which none does. Assumes nothing.
-use Rattle.std.specs.Prelude.{◌≡◌, refl, Bool, true, false, List, [], ◌∷◌, ◌++◌, ℕ, zero, suc, ◌+◌, ◌-◌, ◌*◌, ◌≤◌, ◌<◌, ltb, eqb}
-use Rattle.std.proofs.Common.{sym, ap, ◌∙◌, subst, arith, lt-ltb, eq-eqb, ne_eqb}
+use Rattle.std.specs.Prelude.{◌≡◌, refl, Bool, true, false, List, [], ◌∷◌, ◌++◌, ℕ, zero, suc, ◌+◌, ◌-◌, ◌*◌, ◌<◌, ltb, eqb}
+use Rattle.std.proofs.Common.{ap, ◌∙◌, subst, arith, lt-ltb, eq-eqb, ne_eqb}
 use Rattle.std.proofs.lemmas.Bool.{eqb-false}
 use Rattle.svg.specs.declared.steps.Kind.{Kind}
 use Rattle.svg.specs.declared.steps.Kind.TheVariants.{Move, Line, Quad, Cubic}
@@ -10,15 +10,14 @@ use Rattle.svg.specs.declared.steps.Place.{Place}
 use Rattle.svg.specs.declared.steps.Place.TheVariants.{AtStart, AtLetter, AtSign, InWhole, AtPoint, InFraction, AtGap, AtComma, AtClose}
 use Rattle.svg.specs.declared.steps.Num.{Num}
 use Rattle.svg.specs.declared.steps.State.{State}
-use Rattle.svg.specs.declared.steps.Fault.TheVariants.{NotInLanguage, TooLong}
+use Rattle.svg.specs.declared.steps.Fault.TheVariants.{TooLong}
 use Rattle.svg.specs.declared.steps.Step.{Step}
 use Rattle.svg.specs.declared.steps.Step.TheVariants.{Go, Lettered, Shut, Bad}
 use Rattle.svg.specs.Fold.{Turn, Going, Stopped}
-use Rattle.svg.specs.declared.steps.Verdict.{Verdict}
-use Rattle.svg.specs.declared.steps.Verdict.TheVariants.{Accepted, Refused}
+use Rattle.svg.specs.declared.steps.Verdict.TheVariants.{Accepted}
 use Rattle.svg.specs.Language.{pick, by, arity, next, Item, Text, symbols, symbol_of, mark_of, letter_of}
 use Rattle.svg.specs.Machine.{num, st, whole_digit, fraction_digit, first_letter, opening, move, moved, ended, finished, gap_last, begun}
-use Rattle.svg.specs.Fold.{settle, turn_of, closing, run, verdict_from, Answer, answer}
+use Rattle.svg.specs.Fold.{settle, turn_of, run, verdict_from, Answer, answer}
 use Rattle.svg.specs.Unique.{end_of, verdict_is}
 use Rattle.svg.specs.Exactly.{accepted_is_text}
 use Rattle.svg.specs.GoesOn.{after, symbols_append}

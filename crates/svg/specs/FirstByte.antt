@@ -14,12 +14,11 @@ use Rattle.svg.specs.declared.steps.Fault.{Fault}
 use Rattle.svg.specs.declared.steps.Fault.TheVariants.{NotInLanguage, TooLong}
 use Rattle.svg.specs.declared.steps.Step.{Step}
 use Rattle.svg.specs.declared.steps.Step.TheVariants.{Go, Lettered, Shut, Bad}
-use Rattle.svg.specs.declared.steps.Verdict.{Verdict}
 use Rattle.svg.specs.declared.steps.Verdict.TheVariants.{Refused}
 use Rattle.svg.specs.declared.reader.Ending.TheVariants.{Faulty}
 use Rattle.svg.specs.Language.{pick, by, symbols, next}
 use Rattle.svg.specs.Machine.{num, whole_digit, fraction_digit, first_letter, opening, move, moved, finished, ended, whole_ends, fraction_ends, begun}
-use Rattle.svg.specs.Fold.{Turn, Going, Stopped, settle, turn_of, closing, verdict_from}
+use Rattle.svg.specs.Fold.{Turn, Going, Stopped, settle, turn_of, verdict_from}
 use Rattle.svg.specs.Unique.{verdict_stays}
 use Rattle.svg.specs.GoesOn.{after}
 use Rattle.svg.specs.Import.{import_of}

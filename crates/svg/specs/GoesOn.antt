@@ -9,7 +9,7 @@ use Rattle.svg.specs.declared.steps.Verdict.{Verdict}
 use Rattle.svg.specs.declared.steps.Verdict.TheVariants.{Accepted, Refused}
 use Rattle.svg.specs.Language.{Item, Text, symbols, symbol_of}
 use Rattle.svg.specs.Machine.{num, begun}
-use Rattle.svg.specs.Fold.{run, verdict_from, turn_of}
+use Rattle.svg.specs.Fold.{verdict_from, turn_of}
 use Rattle.svg.specs.Unique.{reads, end_of, verdict_is, verdict_stays}
 
 -- where the automaton stands behind the symbols ys

@@ -9,7 +9,6 @@ use Rattle.svg.specs.declared.steps.Kind.{Kind}
 use Rattle.svg.specs.declared.steps.Kind.TheVariants.{Move}
 use Rattle.svg.specs.declared.steps.Fault.{Fault}
 use Rattle.svg.specs.declared.steps.Fault.TheVariants.{NotInLanguage, TooLong}
-use Rattle.svg.specs.declared.steps.Verdict.{Verdict}
 use Rattle.svg.specs.declared.steps.Verdict.TheVariants.{Accepted as Text, Refused}
 use Rattle.svg.specs.declared.reader.Ending.{Ending}
 use Rattle.svg.specs.declared.reader.Ending.TheVariants.{Accepted, Faulty, Undrawn}

@@ -2,7 +2,7 @@
 -- (`text_accepted`, `accepted_text`). Assumes nothing.
 use Rattle.std.specs.Prelude.{◌≡◌, Bool, ℕ, ◌+◌, eqb, length}
 use Rattle.std.proofs.Math.Path.{refl, ap, subst}
-use Rattle.std.proofs.Common.{sym, ◌∙◌, arith, eqb-true, eq-eqb, ne_eqb}
+use Rattle.std.proofs.Common.{sym, ◌∙◌, arith, eqb-true, eq-eqb}
 use Rattle.std.proofs.Math.Bool.{true, false}
 use mathlib.Core.List.{List, [], ◌∷◌, ◌++◌, append_assoc}
 use Rattle.std.proofs.lemmas.Bool.{eqb-false}
@@ -19,10 +19,10 @@ use Rattle.svg.specs.declared.steps.Verdict.{Verdict}
 use Rattle.svg.specs.declared.steps.Verdict.TheVariants.{Accepted as Text, Refused}
 use Rattle.svg.specs.declared.reader.Ending.{Ending}
 use Rattle.svg.specs.declared.reader.Ending.TheVariants.{Accepted, Faulty, Undrawn}
-use Rattle.svg.specs.Language.{pick, arity, behind, Decimal, Item, letter, number, close, symbols, commands_at, close_path, Means}
+use Rattle.svg.specs.Language.{pick, arity, behind, Decimal, Item, letter, number, close, symbols, commands_at, Means}
 use Rattle.svg.specs.Language.{Command as Svg, Text as IsText, draw as group}
 use Rattle.svg.specs.Machine.{Run, over, said, runs, begun, num}
-use Rattle.svg.specs.Fold.{Answer, answer, run}
+use Rattle.svg.specs.Fold.{answer}
 use Rattle.svg.specs.Unique.{reads}
 use Rattle.svg.specs.Exactly.{accepted_is_text}
 use Rattle.svg.specs.Said.{items_in, end_in, answer_in, run_is}

@@ -1,5 +1,5 @@
 -- The language of path data: SVG 2's, cut down to absolute M, L, Q, C and Z. Definitions only, and no reader: a text is in the language where `Text` says so.
-use Rattle.std.specs.Prelude.{Bool, true, false, not, ◌&&◌, ◌||◌, ◌≡◌, List, [], ◌∷◌, ◌++◌, ℕ, zero, suc, ◌+◌, ◌-◌, ◌*◌, ◌≤◌, T, leb, ltb, eqb, length}
+use Rattle.std.specs.Prelude.{Bool, true, false, not, ◌||◌, ◌≡◌, List, [], ◌∷◌, ◌++◌, ℕ, zero, suc, ◌+◌, ◌-◌, ◌*◌, ◌≤◌, T, leb, ltb, eqb, length}
 use Rattle.svg.specs.declared.steps.Kind.{Kind}
 use Rattle.svg.specs.declared.steps.Kind.TheVariants.{Move, Line, Quad, Cubic}
 use Rattle.svg.specs.declared.steps.Symbol.{Symbol}

@@ -1,5 +1,5 @@
 -- Where a text is refused with 61: at the byte that is told a number is spelt whose digits, before the point or behind it, are ten or more (`long_byte`). Assumes nothing.
-use Rattle.std.specs.Prelude.{◌≡◌, refl, ◌⊎◌, Bool, true, false, List, [], ◌∷◌, ◌++◌, ℕ, zero, suc, ◌+◌, ◌≤◌, ◌<◌, eqb, ltb, length, drop}
+use Rattle.std.specs.Prelude.{◌≡◌, refl, ◌⊎◌, Bool, true, false, List, [], ◌∷◌, ◌++◌, ℕ, zero, suc, ◌+◌, ◌≤◌, eqb, ltb, length, drop}
 use Rattle.std.proofs.Common.{sym, ap, ◌∙◌, subst, inl, inr, arith, ltb-false, length-append}
 use Rattle.pattern.specs.declared.pen.Pen.{Pen}
 use Rattle.svg.specs.declared.steps.Kind.{Kind}
@@ -16,10 +16,9 @@ use Rattle.svg.specs.declared.steps.Step.{Step}
 use Rattle.svg.specs.declared.steps.Step.TheVariants.{Go, Lettered, Shut, Bad}
 use Rattle.svg.specs.declared.steps.Verdict.{Verdict}
 use Rattle.svg.specs.declared.steps.Verdict.TheVariants.{Accepted as Text, Refused}
-use Rattle.svg.specs.declared.reader.Ending.{Ending}
 use Rattle.svg.specs.declared.reader.Ending.TheVariants.{Faulty}
 use Rattle.svg.specs.Language.{pick, by, symbols, Signs, bare, sign, signed, digits, next}
-use Rattle.svg.specs.Machine.{num, st, whole_digit, fraction_digit, first_letter, opening, move, moved, finished, ended, in_number, last, begun}
+use Rattle.svg.specs.Machine.{num, whole_digit, fraction_digit, first_letter, opening, move, moved, finished, ended, in_number, last, begun}
 use Rattle.svg.specs.Fold.{Turn, Going, Stopped, settle, turn_of, closing, verdict_from}
 use Rattle.svg.specs.Unique.{verdict_stays}
 use Rattle.svg.specs.Import.{import_of}

@@ -2,7 +2,7 @@
 use Rattle.std.specs.Prelude.{Bool, true, false, List, [], ◌∷◌, ◌++◌, ℕ, ◌+◌, eqb, get_or}
 use Rattle.std.specs.Float.{binary32}
 use Rattle.std.specs.Float.Ieee.{to_bits}
-use Rattle.pattern.specs.Commands.{Segment, line, quad, cubic, Command, move, draw, end, Outcome}
+use Rattle.pattern.specs.Commands.{line, quad, cubic, Command, move, draw, end, Outcome}
 use Rattle.pattern.specs.Meaning.{next}
 use Rattle.pattern.specs.declared.pen.Spot.{Spot}
 use Rattle.svg.specs.declared.steps.Kind.{Kind}

@@ -1,6 +1,6 @@
 -- Without its places, what a text says is what `run` finds (`run_is`). Assumes nothing.
 use Rattle.std.specs.Prelude.{◌≡◌, refl, Bool, true, false, List, [], ◌∷◌, ℕ, ◌+◌}
-use Rattle.std.proofs.Common.{sym, ap, ◌∙◌}
+use Rattle.std.proofs.Common.{ap, ◌∙◌}
 use Rattle.svg.specs.declared.steps.Symbol.{Symbol}
 use Rattle.svg.specs.declared.steps.State.{State}
 use Rattle.svg.specs.declared.steps.Step.{Step}

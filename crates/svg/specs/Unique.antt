@@ -1,6 +1,6 @@
 -- The automaton reads every text of the language, and finds what it says (`reads`); so a text says one thing only (`unique`), and is the text of at most one list of
 -- commands (`one_meaning`). Assumes nothing.
-use Rattle.std.specs.Prelude.{◌≡◌, refl, Bool, true, T, ltb, length}
+use Rattle.std.specs.Prelude.{◌≡◌, refl, Bool, true, T, length}
 use Rattle.std.proofs.Common.{sym, ◌∙◌, lt-ltb}
 use Rattle.std.proofs.Math.Path.{ap}
 use Rattle.std.proofs.Math.Bool.{false}
@@ -8,7 +8,7 @@ use mathlib.Core.List.{List, [], ◌∷◌}
 use Prim.Native.Nat.{ℕ, zero, suc, ◌+◌, ◌*◌, ◌≤◌, ◌<◌}
 use native.Mathlib.Omega.{arith}
 use Rattle.svg.specs.declared.steps.Kind.{Kind}
-use Rattle.svg.specs.declared.steps.Kind.TheVariants.{Move, Line, Quad, Cubic}
+use Rattle.svg.specs.declared.steps.Kind.TheVariants.{Move}
 use Rattle.svg.specs.declared.steps.Symbol.{Symbol}
 use Rattle.svg.specs.declared.steps.Symbol.TheVariants.{White, Comma, Sign, Dot, Digit, Letter, Close, Other}
 use Rattle.svg.specs.declared.steps.Place.{Place}
@@ -16,13 +16,13 @@ use Rattle.svg.specs.declared.steps.Place.TheVariants.{AtStart, AtLetter, AtSign
 use Rattle.svg.specs.declared.steps.Num.{Num}
 use Rattle.svg.specs.declared.steps.State.{State}
 use Rattle.svg.specs.declared.steps.Fault.{Fault}
-use Rattle.svg.specs.declared.steps.Fault.TheVariants.{NotInLanguage, TooLong}
+use Rattle.svg.specs.declared.steps.Fault.TheVariants.{TooLong}
 use Rattle.svg.specs.declared.steps.Step.{Step}
 use Rattle.svg.specs.declared.steps.Step.TheVariants.{Go, Lettered, Shut, Bad}
-use Rattle.svg.specs.Language.{pick, Decimal, dec, Item, letter, number, close, next, Signs, bare, sign, digits, onto, Number, plain, pointed, spell, value_of, Short, ends, spaces, Gap, blank, comma, Stage, opening, lettered, numbered, closed, Rest, nothing, begins, first, more, turns, closes, stops, opens, again, over, Text, symbols, Command, commands_at, Means}
+use Rattle.svg.specs.Language.{pick, dec, Item, letter, number, close, next, Signs, bare, sign, digits, onto, Number, plain, pointed, spell, value_of, Short, ends, spaces, blank, comma, Stage, opening, lettered, numbered, closed, Rest, nothing, begins, first, more, turns, closes, stops, opens, again, over, Text, symbols, Command, commands_at, Means}
 use Rattle.svg.specs.Machine.{num, st, number_of, begun, moved, finished, ended, last, in_number}
-use Rattle.svg.specs.Fold.{Answer, answer, says, onward, run, verdict_from, turn_of, settle, closing, last_of}
-use Rattle.svg.specs.Fold.{Turn, Going, Stopped}
+use Rattle.svg.specs.Fold.{Answer, answer, says, onward, run, verdict_from, settle, last_of}
+use Rattle.svg.specs.Fold.{Going, Stopped}
 use Rattle.svg.specs.declared.steps.Verdict.{Verdict}
 use Rattle.svg.specs.declared.steps.Verdict.TheVariants.{Accepted, Refused}
 

@@ -1,5 +1,5 @@
 -- What the functions of `reader` hand each other: byte by byte, with the hand. Definitions only.
-use Rattle.std.specs.Prelude.{Bool, true, false, List, [], ◌∷◌, ℕ, ◌+◌, ◌<◌, eqb}
+use Rattle.std.specs.Prelude.{false, List, [], ◌∷◌, ℕ, ◌+◌, ◌<◌, eqb}
 use Rattle.pattern.specs.Commands.{end, Outcome, command_of, number_of}
 use Rattle.pattern.specs.declared.pen.Pen.{Pen}
 use Rattle.pattern.specs.declared.pen.Drew.{Drew}

@@ -1,5 +1,6 @@
 // sin, cos, atan2, asin and acos of f32: fixed sequences of operations, each rounded once, as specs/Trig.antt gives them.
 #![tactic(auto)]
+
 ghost use Rattle.std.specs.Prelude.{◌≡◌, cond, ◌+◌, ◌-◌, ◌*◌, ◌/◌, ◌%◌, ◌^◌, ◌≤◌};
 ghost use Rattle.std.specs.Float.{nan};
 ghost use Rattle.std.specs.Float.Ieee.{lt};

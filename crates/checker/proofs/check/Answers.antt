@@ -1,5 +1,4 @@
 -- `checker::check` meets its contract: it looks at the points of the records alone, and these are all that need looking at. Assumes nothing.
-use mathlib.Core.Path.{refl}
 use Rattle.checker.specs.Verdict.{Answers}
 use Rattle.checker.specs.Laws.{even_balanced}
 use Rattle.checker.proofs.Steps.{first_of_lem, none_left}
@@ -20,20 +19,18 @@ returns-then-b-n c =
 
 pub returns-then-u-n : goal.returns-then-u-n
 unfolding Answers
-returns-then-u-n c =
-    (
-      record { few = c.if-n-gt2000.false; whole = c.if-list-ne0.false },
-      none_left c.first_bad-b.ensures c.if-b-n.false,
-      first_of_lem c.first_uneven-u.ensures c.if-u-n.true,
-    )
+returns-then-u-n c = (
+  record { few = c.if-n-gt2000.false; whole = c.if-list-ne0.false },
+  none_left c.first_bad-b.ensures c.if-b-n.false,
+  first_of_lem c.first_uneven-u.ensures c.if-u-n.true,
+)
 
 pub returns : goal.returns
 unfolding Answers
-returns c =
-    (
-      record { few = c.if-n-gt2000.false; whole = c.if-list-ne0.false },
-      record {
-        finite = none_left c.first_bad-b.ensures c.if-b-n.false;
-        balanced = even_balanced _ (none_left c.first_uneven-u.ensures c.if-u-n.false);
-      },
-    )
+returns c = (
+  record { few = c.if-n-gt2000.false; whole = c.if-list-ne0.false },
+  record {
+    finite = none_left c.first_bad-b.ensures c.if-b-n.false;
+    balanced = even_balanced _ (none_left c.first_uneven-u.ensures c.if-u-n.false);
+  },
+)

@@ -1,9 +1,6 @@
 -- `checker::first_bad` meets its contract. Assumes nothing.
-use Rattle.checker.proofs.Steps.{Passed, start, pass, stop, end}
-use Rattle.records.specs.Record.{bad_at}
-use borrow.Author.Rules.{rules}
+use Rattle.checker.proofs.Steps.{start, pass, stop, end}
 use native.Mathlib.Omega.{arith}
-use Prim.Native.Nat.{◌-◌}
 use Rattle.checker.proofs.first_bad.Goals as goal
 
 pub loop-k-init : goal.loop-k-init

@@ -1,8 +1,6 @@
 -- `checker::first_bad` meets its contract. Assumes nothing.
-use Rattle.checker.proofs.Steps.{Passed, start, pass, stop, end}
+use Rattle.checker.proofs.Steps.{Passed}
 use Rattle.records.specs.Record.{bad_at}
-use borrow.Author.Rules.{rules}
-use native.Mathlib.Omega.{arith}
 use Prim.Native.Nat.{◌-◌}
 use Rattle.checker.proofs.first_bad.Given as goal
 

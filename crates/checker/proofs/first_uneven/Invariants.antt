@@ -1,8 +1,6 @@
 -- `checker::first_uneven` meets its contract. Assumes nothing.
-use Rattle.checker.proofs.Steps.{Passed, start, pass, stop, end}
+use Rattle.checker.proofs.Steps.{Passed}
 use Rattle.checker.specs.Verdict.{uneven_at}
-use borrow.Author.Rules.{rules}
-use native.Mathlib.Omega.{arith}
 use Prim.Native.Nat.{◌-◌}
 use Rattle.checker.proofs.first_uneven.Given as goal
 

@@ -1,5 +1,4 @@
 -- `checker::uneven_at` meets its contract. Assumes nothing.
-use borrow.Author.Rules.{rules}
 use Rattle.checker.proofs.Steps.{uneven_record}
 use Rattle.checker.proofs.uneven_at.Goals as goal
 

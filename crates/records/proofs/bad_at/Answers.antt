@@ -1,5 +1,4 @@
 -- `records::bad_at` meets its contract. Assumes nothing.
-use borrow.Author.Rules.{rules}
 use Rattle.records.specs.Record.{bad_at}
 use Rattle.records.proofs.bad_at.Goals as goal
 

@@ -1,11 +1,10 @@
 -- `records::count_both` meets its contract: each tally is that of the records passed. Assumes nothing.
-use Prim.Native.Nat.{ℕ, ◌≤◌, ◌-◌}
+use Prim.Native.Nat.{ℕ, ◌≤◌}
 use mathlib.Core.Path.{◌≡◌}
 use mathlib.Core.Bool.{Bool}
 use mathlib.Core.List.{List}
 use native.Mathlib.Omega.{arith}
-use borrow.Author.Rules.{rules}
-use Rattle.records.specs.Record.{count, is_point, tally_of}
+use Rattle.records.specs.Record.{count, tally_of}
 use Rattle.records.specs.declared.Counts.{Counts}
 use Rattle.records.proofs.Tallies.{Counted, none, more, room, all}
 use Rattle.records.proofs.count_both.Goals as goal

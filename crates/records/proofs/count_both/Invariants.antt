@@ -1,13 +1,7 @@
 -- `records::count_both` meets its contract: each tally is that of the records passed. Assumes nothing.
-use Prim.Native.Nat.{ℕ, ◌≤◌, ◌-◌}
-use mathlib.Core.Path.{◌≡◌}
-use mathlib.Core.Bool.{Bool}
-use mathlib.Core.List.{List}
-use native.Mathlib.Omega.{arith}
-use borrow.Author.Rules.{rules}
-use Rattle.records.specs.Record.{count, is_point, tally_of}
-use Rattle.records.specs.declared.Counts.{Counts}
-use Rattle.records.proofs.Tallies.{Counted, none, more, room, all}
+use Prim.Native.Nat.{◌≤◌, ◌-◌}
+use Rattle.records.specs.Record.{is_point}
+use Rattle.records.proofs.Tallies.{Counted}
 use Rattle.records.proofs.count_both.Given as goal
 
 abbrev pub invariant-loop-k : goal.invariant-loop-k

@@ -1,5 +1,4 @@
 -- `records::end_is` meets its contract. Assumes nothing.
-use borrow.Author.Rules.{rules}
 use Rattle.records.proofs.end_is.Goals as goal
 
 pub returns : goal.returns

@@ -1,5 +1,4 @@
 -- `records::key_at` meets its contract. Assumes nothing.
-use borrow.Author.Rules.{rules}
 use Rattle.records.proofs.key_at.Goals as goal
 
 pub returns : goal.returns

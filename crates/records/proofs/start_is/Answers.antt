@@ -1,5 +1,4 @@
 -- `records::start_is` meets its contract. Assumes nothing.
-use borrow.Author.Rules.{rules}
 use Rattle.records.proofs.start_is.Goals as goal
 
 pub returns : goal.returns

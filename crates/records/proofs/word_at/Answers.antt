@@ -1,5 +1,4 @@
 -- `records::word_at` meets its contract: behind the list's end there are zeros. Assumes nothing.
-use borrow.Author.Rules.{rules}
 use Rattle.records.specs.RecordLaws.{past_end, past_count}
 use Rattle.records.proofs.word_at.Goals as goal
 

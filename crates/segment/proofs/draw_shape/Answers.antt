@@ -1,5 +1,4 @@
 -- `segment::draw_shape` meets its contract. Assumes nothing.
-use borrow.Author.Rules.{rules}
 use Rattle.drawing.specs.PageLaws.{nothing, draws, as_many}
 use Rattle.segment.specs.Segment.{shape_events}
 use Rattle.segment.proofs.draw_shape.Goals as goal

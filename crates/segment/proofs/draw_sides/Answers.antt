@@ -1,5 +1,4 @@
 -- `segment::draw_sides` meets its contract. Assumes nothing.
-use borrow.Author.Rules.{rules}
 use Rattle.drawing.specs.PageLaws.{then, draws, as_many}
 use Rattle.segment.specs.Segment.{sides_events}
 use Rattle.segment.proofs.draw_sides.Goals as goal

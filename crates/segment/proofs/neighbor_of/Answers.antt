@@ -1,5 +1,4 @@
 -- `segment::neighbor_of` meets its contract. Assumes nothing.
-use borrow.Author.Rules.{rules}
 use borrow.Author.Tests.{eq-eqb, ne_eqb}
 use Rattle.segment.specs.Segment.{neighbor_of}
 use Rattle.segment.proofs.neighbor_of.Goals as goal

@@ -1,5 +1,4 @@
 -- `segment::start_cap` meets its contract. Assumes nothing.
-use borrow.Author.Rules.{rules}
 use lib.Ieee.{of_bits, round}
 use Rattle.drawing.specs.PageLaws.{draws, as_many}
 use Rattle.segment.specs.Segment.{start_cap_events}

@@ -1,5 +1,4 @@
 -- `segment::stroke` meets its contract. Assumes nothing.
-use borrow.Author.Rules.{rules}
 use lib.Ieee.{of_bits, round}
 use Rattle.drawing.specs.PageLaws.{then, draws, as_many}
 use Rattle.segment.specs.Segment.{stroke_events}

@@ -1,5 +1,4 @@
 -- `checker::Verdict::told` meets its contract. Assumes nothing.
-use borrow.Author.Rules.{rules}
 use Rattle.checker.specs.Verdict.{told_of}
 use Rattle.checker.proofs.Verdict.told.Goals as goal
 

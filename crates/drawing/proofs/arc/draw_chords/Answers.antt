@@ -1,8 +1,6 @@
 -- `drawing::arc::draw_chords` meets its contract. The invariant: the chords left to draw come to the same. Assumes nothing.
 use mathlib.Core.Path.{sym, ◌∙◌}
-use native.Mathlib.Omega.{arith}
-use Rattle.drawing.specs.Arc.{chords}
-use Rattle.drawing.specs.PageLaws.{Left, begin, turn, done, halts, as_many}
+use Rattle.drawing.specs.PageLaws.{begin, turn, done, halts, as_many}
 use Rattle.drawing.proofs.Chords.{chord, last_chord}
 use Rattle.drawing.proofs.arc.draw_chords.Goals as goal
 

@@ -1,5 +1,4 @@
 -- `drawing::cubic::cubic_deriv` meets its contract. Assumes nothing.
-use borrow.Author.Rules.{rules}
 use lib.Ieee.{of_bits, round}
 use Rattle.drawing.specs.Cubic.{cubic_deriv}
 use Rattle.drawing.proofs.cubic.cubic_deriv.Goals as goal

@@ -1,5 +1,4 @@
 -- `drawing::cubic::cubic_end_tangent` meets its contract. Assumes nothing.
-use borrow.Author.Rules.{rules}
 use Rattle.drawing.specs.Cubic.{end_tangent}
 use Rattle.drawing.proofs.cubic.cubic_end_tangent.Goals as goal
 

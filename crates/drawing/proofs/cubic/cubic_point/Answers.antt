@@ -1,5 +1,4 @@
 -- `drawing::cubic::cubic_point` meets its contract. Assumes nothing.
-use borrow.Author.Rules.{rules}
 use lib.Ieee.{of_bits, round}
 use Rattle.drawing.specs.Cubic.{cubic_point}
 use Rattle.drawing.proofs.cubic.cubic_point.Goals as goal

@@ -1,5 +1,4 @@
 -- `drawing::line::no_count` meets its contract. Assumes nothing.
-use borrow.Author.Rules.{rules}
 use Rattle.drawing.specs.PageLaws.{stays}
 use Rattle.drawing.proofs.Draw.{other_than_on, count_stops}
 use Rattle.drawing.proofs.line.no_count.Goals as goal

@@ -1,5 +1,4 @@
 -- `drawing::line::no_join` meets its contract. Assumes nothing.
-use borrow.Author.Rules.{rules}
 use Rattle.drawing.specs.PageLaws.{stays}
 use Rattle.drawing.proofs.Draw.{other_than_on, join_stops}
 use Rattle.drawing.proofs.line.no_join.Goals as goal

@@ -1,6 +1,5 @@
 -- `drawing::line::put` meets its contract. Assumes nothing.
 use native.Mathlib.Omega.{arith}
-use borrow.Author.Rules.{rules}
 use lib.ListN.{length-set}
 use Rattle.drawing.proofs.Draw.{six_words_lem}
 use Rattle.drawing.proofs.line.put.Goals as goal

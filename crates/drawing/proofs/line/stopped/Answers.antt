@@ -1,6 +1,5 @@
 -- `drawing::line::stopped` meets its contract. Assumes nothing.
 use mathlib.Core.Path.{sym}
-use borrow.Author.Rules.{rules}
 use Rattle.drawing.proofs.Draw.{is_on, other_than_on}
 use Rattle.drawing.proofs.line.stopped.Goals as goal
 

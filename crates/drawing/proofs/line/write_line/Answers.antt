@@ -1,8 +1,6 @@
 -- `drawing::line::write_line` meets its contract. Assumes nothing.
 use mathlib.Core.Path.{◌≡◌, ap, sym, ◌∙◌}
 use mathlib.Core.Bool.{false}
-use native.Mathlib.Omega.{arith}
-use borrow.Author.Rules.{rules}
 use Rattle.spiral.specs.Util.{has_nan}
 use Rattle.drawing.specs.Page.{reach_with}
 use Rattle.drawing.specs.declared.line.Reach.{Reach}

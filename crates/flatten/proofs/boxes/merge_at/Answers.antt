@@ -1,5 +1,5 @@
 -- `flatten::boxes::merge_at` meets its contract: one box is changed; past the list's end nothing is. Assumes nothing.
-use Rattle.std.proofs.Common.{sym, ap, ◌∙◌, set, arith}
+use Rattle.std.proofs.Common.{sym, ap, ◌∙◌, set}
 use Rattle.std.proofs.lemmas.List.{get_or_default, set_past}
 use Rattle.flatten.specs.declared.boxes.PathBox.{PathBox}
 use Rattle.flatten.specs.Boxes.{fresh_box, changed_of, changed_at}

@@ -1,5 +1,4 @@
 -- `flatten::call::answered` meets its contract. Assumes nothing.
-use Rattle.std.proofs.Common.{rules}
 use Rattle.flatten.specs.Call.{answer_of}
 use Rattle.flatten.proofs.call.answered.Goals as goal
 

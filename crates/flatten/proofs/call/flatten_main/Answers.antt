@@ -1,5 +1,5 @@
 -- `flatten::call::flatten_main` meets its contract: each turn is the next state, and where no tag is left the state is the last. Assumes nothing.
-use Rattle.std.proofs.Common.{◌≡◌, ℕ, suc, ◌+◌, ◌-◌, ◌*◌, ◌<◌, ◌≤◌, Bool, true, false, ◌||◌, nat_lt, List, length, sym, refl, ap, ◌∙◌, arith}
+use Rattle.std.proofs.Common.{◌≡◌, ℕ, suc, ◌+◌, ◌-◌, ◌*◌, ◌≤◌, Bool, true, false, ◌||◌, nat_lt, List, length, sym, refl, ap, ◌∙◌, arith}
 use Rattle.flatten.specs.declared.boxes.PathBox.{PathBox}
 use Rattle.flatten.specs.declared.call.Turn.{Turn}
 use Rattle.flatten.specs.declared.call.Layout.{Layout}
@@ -8,7 +8,7 @@ use Rattle.flatten.specs.Boxes.{changed_at}
 use Rattle.flatten.specs.Step.{stepped, step_of}
 use Rattle.flatten.specs.Call.{State, taken, first_turn, start_at, start_of, next, after, answer_of, told_of, outcome, outcome_of, call_of, after_by, call_by}
 use Rattle.flatten.specs.CallLaws.{moves, one_more_lem, stays}
-use Rattle.flatten.proofs.call.flatten_main.Invariants.{starting, Going}
+use Rattle.flatten.proofs.call.flatten_main.Invariants.{starting}
 use Rattle.std.proofs.lemmas.Bool.Decides.{nat_tests}
 use Rattle.flatten.proofs.call.flatten_main.Goals as goal
 
@@ -46,7 +46,6 @@ whole_call : (layout : Layout) (scene prefixes : List ℕ) (ps : List PathBox) (
     → r ≡ answer_of s.turn → outcome (told_of r) s.boxes s.lines ≡ call_of layout scene prefixes ps ws
 unfolding call_by
 whole_call layout scene prefixes ps ws s r e e₁ = ap (λ (a : Answer). outcome (told_of a) s.boxes s.lines) e₁ ∙ ap outcome_of e
-
 
 pub loop-t-init : goal.loop-t-init
 unfolding after_by

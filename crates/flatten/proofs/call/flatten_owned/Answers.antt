@@ -1,7 +1,6 @@
 -- `flatten::call::flatten_owned` meets its contract: the first boxes are lent, and the others stay behind them. Assumes nothing.
-use Rattle.std.proofs.Common.{◌≡◌, ℕ, ◌<◌, ◌≤◌, Bool, true, false, cond, ltb, ltb-false, List, length, take, drop, sym, refl, ap, ◌∙◌, subst, arith}
+use Rattle.std.proofs.Common.{◌≡◌, ℕ, ◌≤◌, Bool, true, false, cond, ltb, ltb-false, length, drop, sym, refl, ap, arith}
 use Rattle.std.proofs.lemmas.List.{length-take-le}
-use Rattle.flatten.specs.declared.boxes.PathBox.{PathBox}
 use Rattle.flatten.specs.Call.{few_of, and_behind, owned_of}
 use Rattle.flatten.proofs.call.flatten_owned.Goals as goal
 

@@ -1,5 +1,5 @@
 -- `flatten::call::report` meets its contract. Assumes nothing.
-use Rattle.std.proofs.Common.{◌≡◌, ℕ, ◌<◌, ◌≤◌, List, [], ◌∷◌, length, set, refl, ap, ◌∙◌, arith, rules}
+use Rattle.std.proofs.Common.{◌≡◌, ℕ, ◌<◌, ◌≤◌, List, [], ◌∷◌, length, set, refl, ap, ◌∙◌, arith}
 use Rattle.flatten.specs.Call.{report_of}
 use Rattle.flatten.specs.declared.call.Told.{Told}
 use Rattle.flatten.proofs.call.report.Goals as goal

@@ -1,5 +1,5 @@
 -- `flatten::call::start` meets its contract. Assumes nothing.
-use Rattle.std.proofs.Common.{rules, le-ltb, lt-ltb}
+use Rattle.std.proofs.Common.{le-ltb, lt-ltb}
 use Rattle.flatten.specs.Call.{start_of}
 use Rattle.flatten.proofs.call.start.Goals as goal
 

@@ -1,5 +1,5 @@
 -- `flatten::step::draw_tag` meets its contract. Assumes nothing.
-use Rattle.std.proofs.Common.{◌≡◌, true, false, rules, eq-eqb, ne_eqb}
+use Rattle.std.proofs.Common.{◌≡◌, true, false, eq-eqb, ne_eqb}
 use Rattle.flatten.specs.Tag.{◌>>=◌, finite_only, events_by, events_at}
 use Rattle.flatten.specs.Step.{drawn_of}
 use Rattle.flatten.proofs.Steps.{drew_none, drew_found}

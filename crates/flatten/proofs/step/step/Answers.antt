@@ -1,5 +1,4 @@
 -- `flatten::step::step` meets its contract. Assumes nothing.
-use Rattle.std.proofs.Common.{rules}
 use Rattle.flatten.specs.Step.{step_from_by, step_by}
 use Rattle.flatten.proofs.Steps.{went, fewer, none_left}
 use Rattle.flatten.proofs.step.step.Goals as goal

@@ -1,5 +1,4 @@
 -- `flatten::step::stopped_at` meets its contract. Assumes nothing.
-use Rattle.std.proofs.Common.{rules}
 use Rattle.flatten.specs.Step.{turn_of}
 use Rattle.flatten.proofs.step.stopped_at.Goals as goal
 

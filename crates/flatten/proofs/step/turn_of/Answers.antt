@@ -1,5 +1,4 @@
 -- `flatten::step::turn_of` meets its contract. Assumes nothing.
-use Rattle.std.proofs.Common.{rules}
 use Rattle.flatten.specs.Step.{turn_of}
 use Rattle.flatten.proofs.step.turn_of.Goals as goal
 

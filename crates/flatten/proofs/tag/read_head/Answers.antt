@@ -1,5 +1,5 @@
 -- `flatten::tag::read_head` meets its contract. Assumes nothing.
-use Rattle.std.proofs.Common.{sym, ap, ◌∙◌, rules}
+use Rattle.std.proofs.Common.{sym, ap, ◌∙◌}
 use Rattle.refusals.proofs.Laws.{told_once}
 use Rattle.scene.specs.Words.{word_read}
 use Rattle.scene.specs.Tags.{tag_read}

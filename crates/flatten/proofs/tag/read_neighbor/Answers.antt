@@ -1,5 +1,5 @@
 -- `flatten::tag::read_neighbor` meets its contract. Assumes nothing.
-use Rattle.std.proofs.Common.{sym, ap, ◌∙◌, rules}
+use Rattle.std.proofs.Common.{sym, ap, ◌∙◌}
 use Rattle.refusals.proofs.Laws.{told_once}
 use Rattle.scene.specs.Tags.{tag_read}
 use Rattle.flatten.specs.Tag.{◌>>=◌, neighbor_at}

@@ -1,5 +1,5 @@
 -- `flatten::tag::read_shape` meets its contract. Assumes nothing.
-use Rattle.std.proofs.Common.{sym, ap, ◌∙◌, rules, eq-eqb, ne_eqb}
+use Rattle.std.proofs.Common.{sym, ap, ◌∙◌, eq-eqb, ne_eqb}
 use Rattle.refusals.proofs.Laws.{told_once}
 use Rattle.scene.specs.Words.{word_read}
 use Rattle.flatten.specs.Tag.{◌>>=◌, shape_at}

@@ -1,5 +1,5 @@
 -- `flatten::tag::read_stroke` meets its contract. Assumes nothing.
-use Rattle.std.proofs.Common.{rules, eq-eqb, ne_eqb}
+use Rattle.std.proofs.Common.{eq-eqb, ne_eqb}
 use Rattle.flatten.specs.Tag.{◌>>=◌, stroke_by, stroke_at}
 use Rattle.flatten.proofs.tag.read_stroke.Goals as goal
 

@@ -1,5 +1,5 @@
 -- `flatten::tag::with_box` meets its contract. Assumes nothing.
-use Rattle.std.proofs.Common.{rules, eq-eqb, ne_eqb, le-leb}
+use Rattle.std.proofs.Common.{eq-eqb, ne_eqb, le-leb}
 use borrow.Author.Tests.{lt-leb}
 use Rattle.flatten.specs.Tag.{boxed}
 use Rattle.flatten.proofs.tag.with_box.Goals as goal

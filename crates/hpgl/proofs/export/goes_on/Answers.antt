@@ -1,5 +1,4 @@
 -- `hpgl::export::goes_on` meets its contract. Assumes nothing.
-use borrow.Author.Rules.{rules}
 use Rattle.hpgl.specs.Export.{goes_on}
 use Rattle.hpgl.proofs.export.goes_on.Goals as goal
 

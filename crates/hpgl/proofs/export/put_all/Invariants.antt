@@ -1,12 +1,8 @@
 -- `hpgl::export::put_all` meets its contract. Assumes nothing.
-use borrow.Author.Rules.{rules}
-use mathlib.Core.Path.{refl}
 use Prim.Native.Nat.{◌-◌}
-use native.Mathlib.Omega.{arith}
 use Rattle.hpgl.specs.Form.{range_of}
 use Rattle.hpgl.specs.declared.Table.TheVariants.{New}
-use Rattle.hpgl.specs.ExportLaws.{in_bytes, Going, none_left, record_on, record_bad, record_full, step_room}
-use mathlib.Core.Path.{◌∙◌}
+use Rattle.hpgl.specs.ExportLaws.{in_bytes, Going}
 use Rattle.hpgl.proofs.export.put_all.Given as goal
 
 abbrev pub invariant-loop-i : goal.invariant-loop-i

@@ -1,5 +1,4 @@
 -- `hpgl::export::put_command` meets its contract. Assumes nothing.
-use borrow.Author.Rules.{rules}
 use Rattle.hpgl.specs.Form.{range_of}
 use Rattle.hpgl.specs.declared.Table.TheVariants.{New}
 use Rattle.hpgl.specs.ExportLaws.{in_bytes, put_bad, put_text}

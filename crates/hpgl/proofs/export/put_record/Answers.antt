@@ -1,5 +1,4 @@
 -- `hpgl::export::put_record` meets its contract. Assumes nothing.
-use borrow.Author.Rules.{rules}
 use mathlib.Core.Path.{◌∙◌, sym}
 use Rattle.hpgl.specs.Form.{range_of}
 use Rattle.hpgl.specs.declared.Table.TheVariants.{New}

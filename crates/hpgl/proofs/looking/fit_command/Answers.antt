@@ -1,5 +1,4 @@
 -- `hpgl::looking::fit_command` meets its contract. Assumes nothing.
-use borrow.Author.Rules.{rules}
 use Rattle.hpgl.specs.Form.{range_of}
 use Rattle.hpgl.specs.ExportLaws.{only_counted, put_bad, put_text}
 use Rattle.hpgl.proofs.looking.fit_command.Goals as goal

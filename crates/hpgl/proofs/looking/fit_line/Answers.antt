@@ -1,5 +1,4 @@
 -- `hpgl::looking::fit_line` meets its contract. Assumes nothing.
-use borrow.Author.Rules.{rules}
 use Rattle.hpgl.specs.Form.{range_of}
 use Rattle.hpgl.specs.ExportLaws.{only_counted, on_room, line_joined, line_then, line_bad, line_full}
 use Rattle.hpgl.proofs.looking.fit_line.Goals as goal

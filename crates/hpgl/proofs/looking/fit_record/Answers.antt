@@ -1,5 +1,4 @@
 -- `hpgl::looking::fit_record` meets its contract. Assumes nothing.
-use borrow.Author.Rules.{rules}
 use mathlib.Core.Path.{◌∙◌, sym}
 use Rattle.hpgl.specs.Form.{range_of}
 use Rattle.hpgl.specs.ExportLaws.{only_counted, other_path, its_line}

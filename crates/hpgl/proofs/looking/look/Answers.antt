@@ -1,10 +1,8 @@
 -- `hpgl::looking::look` meets its contract. Assumes nothing.
-use borrow.Author.Rules.{rules}
 use mathlib.Core.Path.{refl, ◌∙◌}
-use Prim.Native.Nat.{◌-◌}
 use native.Mathlib.Omega.{arith}
 use Rattle.hpgl.specs.Form.{range_of}
-use Rattle.hpgl.specs.ExportLaws.{only_counted, Going, none_left, record_on, record_bad, record_full, step_room, no_look, looked}
+use Rattle.hpgl.specs.ExportLaws.{only_counted, none_left, record_on, record_bad, record_full, step_room, no_look, looked}
 use Rattle.hpgl.proofs.looking.look.Goals as goal
 
 pub returns-then-room-lt3 : goal.returns-then-room-lt3

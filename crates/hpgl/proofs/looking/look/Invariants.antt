@@ -1,10 +1,7 @@
 -- `hpgl::looking::look` meets its contract. Assumes nothing.
-use borrow.Author.Rules.{rules}
-use mathlib.Core.Path.{refl, ◌∙◌}
 use Prim.Native.Nat.{◌-◌}
-use native.Mathlib.Omega.{arith}
 use Rattle.hpgl.specs.Form.{range_of}
-use Rattle.hpgl.specs.ExportLaws.{only_counted, Going, none_left, record_on, record_bad, record_full, step_room, no_look, looked}
+use Rattle.hpgl.specs.ExportLaws.{only_counted, Going}
 use Rattle.hpgl.proofs.looking.look.Given as goal
 
 abbrev pub invariant-loop-i : goal.invariant-loop-i

@@ -1,5 +1,4 @@
 -- `hpgl::range::most_of` meets its contract. Assumes nothing.
-use borrow.Author.Rules.{rules}
 use mathlib.Core.Path.{◌∙◌}
 use Rattle.hpgl.specs.Ranges.{old_most}
 use Rattle.hpgl.proofs.range.most_of.Goals as goal

@@ -1,5 +1,4 @@
 -- `hpgl::reading::draw` meets its contract. Assumes nothing.
-use borrow.Author.Rules.{rules}
 use native.Mathlib.Omega.{arith}
 use Rattle.hpgl.specs.ReadingLaws.{place_fits, draw_at, draw_wrong, draw_beyond}
 use Rattle.hpgl.proofs.reading.draw.Goals as goal

@@ -1,5 +1,4 @@
 -- `hpgl::reading::ended` meets its contract. Assumes nothing.
-use borrow.Author.Rules.{rules}
 use Rattle.hpgl.specs.Reading.{back_of}
 use Rattle.hpgl.proofs.reading.ended.Goals as goal
 

@@ -1,5 +1,4 @@
 -- `hpgl::reading::is_at` meets its contract. Assumes nothing.
-use borrow.Author.Rules.{rules}
 use Rattle.hpgl.specs.ReadingLaws.{byte_in, byte_out}
 use Rattle.hpgl.proofs.reading.is_at.Goals as goal
 

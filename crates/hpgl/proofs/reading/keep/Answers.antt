@@ -1,5 +1,4 @@
 -- `hpgl::reading::keep` meets its contract. Assumes nothing.
-use borrow.Author.Rules.{rules}
 use Rattle.hpgl.specs.Form.{range_of}
 use Rattle.hpgl.specs.ReadingLaws.{kept_in, kept_out}
 use Rattle.hpgl.proofs.reading.keep.Goals as goal

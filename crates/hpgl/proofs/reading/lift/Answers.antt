@@ -1,5 +1,4 @@
 -- `hpgl::reading::lift` meets its contract. Assumes nothing.
-use borrow.Author.Rules.{rules}
 use native.Mathlib.Omega.{arith}
 use Rattle.hpgl.specs.ReadingLaws.{place_fits, lift_at, lift_wrong, lift_beyond}
 use Rattle.hpgl.proofs.reading.lift.Goals as goal

@@ -1,5 +1,4 @@
 -- `hpgl::reading::num_step` meets its contract. Assumes nothing.
-use borrow.Author.Rules.{rules}
 use mathlib.Core.Path.{◌∙◌}
 use Rattle.hpgl.specs.Reading.{num_step}
 use Rattle.hpgl.specs.ReadingLaws.{good_new, byte_dash, byte_low, byte_digit, byte_high}

@@ -1,5 +1,4 @@
 -- `hpgl::reading::on_dash` meets its contract. Assumes nothing.
-use borrow.Author.Rules.{rules}
 use Rattle.hpgl.proofs.reading.on_dash.Goals as goal
 
 pub returns-in-None : goal.returns-in-None

@@ -1,5 +1,4 @@
 -- `hpgl::reading::on_digit` meets its contract. Assumes nothing.
-use borrow.Author.Rules.{rules}
 use mathlib.Core.Path.{◌∙◌}
 use native.Mathlib.Omega.{arith}
 use Rattle.hpgl.specs.Form.{range_of}

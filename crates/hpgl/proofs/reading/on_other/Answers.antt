@@ -1,7 +1,5 @@
 -- `hpgl::reading::on_other` meets its contract. Assumes nothing.
-use borrow.Author.Rules.{rules}
 use mathlib.Core.Path.{ap}
-use borrow.Author.Tests.{not-true, not-false}
 use Rattle.hpgl.specs.ReadingLaws.{other_wrong, good_some}
 use Rattle.hpgl.specs.declared.Table.TheVariants.{New}
 use Rattle.hpgl.specs.declared.reading.NumStep.TheVariants.{Done}

@@ -1,5 +1,4 @@
 -- `hpgl::reading::pen_down` meets its contract. Assumes nothing.
-use borrow.Author.Rules.{rules}
 use Rattle.hpgl.specs.ReadingLaws.{down_fresh, down_lifted, down_drawn}
 use Rattle.hpgl.proofs.reading.pen_down.Goals as goal
 

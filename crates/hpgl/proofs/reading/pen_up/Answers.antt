@@ -1,5 +1,4 @@
 -- `hpgl::reading::pen_up` meets its contract. Assumes nothing.
-use borrow.Author.Rules.{rules}
 use Rattle.hpgl.specs.ReadingLaws.{up_fresh, up_lifted, up_drawn}
 use Rattle.hpgl.proofs.reading.pen_up.Goals as goal
 

@@ -1,7 +1,5 @@
 -- `hpgl::reading::read` meets its contract. Assumes nothing.
-use borrow.Author.Rules.{rules}
 use mathlib.Core.Path.{◌∙◌, sym}
-use borrow.Author.Tests.{not-true, not-false}
 use Rattle.hpgl.specs.ReadingLaws.{no_i, no_n, no_end, all_in, three_in}
 use Rattle.hpgl.proofs.reading.read.Goals as goal
 

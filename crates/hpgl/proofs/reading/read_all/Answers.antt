@@ -1,10 +1,7 @@
 -- `hpgl::reading::read_all` meets its contract. Assumes nothing.
-use borrow.Author.Rules.{rules}
 use mathlib.Core.Path.{◌∙◌, refl}
-use Prim.Native.Nat.{◌-◌}
 use native.Mathlib.Omega.{arith}
-use lib.ListN.{length}
-use Rattle.hpgl.specs.ReadingLaws.{Unread, none_unread, read_up, read_line, read_full, read_wrong, read_beyond, up_in, line_in}
+use Rattle.hpgl.specs.ReadingLaws.{none_unread, read_up, read_line, read_full, read_wrong, read_beyond, up_in, line_in}
 use Rattle.hpgl.proofs.reading.read_all.Goals as goal
 
 pub loop-at-init : goal.loop-at-init

@@ -1,5 +1,4 @@
 -- `hpgl::reading::read_command` meets its contract. Assumes nothing.
-use borrow.Author.Rules.{rules}
 use Rattle.hpgl.specs.ReadingLaws.{no_p, stops_short, letter_up, letter_down, no_letter}
 use Rattle.hpgl.proofs.reading.read_command.Goals as goal
 

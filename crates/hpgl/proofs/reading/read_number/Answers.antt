@@ -1,12 +1,9 @@
 -- `hpgl::reading::read_number` meets its contract. Assumes nothing.
-use borrow.Author.Rules.{rules}
 use mathlib.Core.Path.{refl}
-use Prim.Native.Nat.{◌-◌}
 use native.Mathlib.Omega.{arith}
-use lib.ListN.{length}
 use Rattle.hpgl.specs.Numbers.{Good}
 use Rattle.hpgl.proofs.Signed.{within_back}
-use Rattle.hpgl.specs.ReadingLaws.{Counting, number_short}
+use Rattle.hpgl.specs.ReadingLaws.{number_short}
 use Rattle.hpgl.proofs.ReadingLaws.{number_on, number_within, number_done, number_wrong, number_beyond}
 use Rattle.hpgl.proofs.reading.read_number.Goals as goal
 

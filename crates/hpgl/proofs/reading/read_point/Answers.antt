@@ -1,5 +1,4 @@
 -- `hpgl::reading::read_point` meets its contract. Assumes nothing.
-use borrow.Author.Rules.{rules}
 use native.Mathlib.Omega.{arith}
 use Rattle.hpgl.proofs.Signed.{within_back}
 use Rattle.hpgl.specs.ReadingLaws.{number_ends, x_then, x_wrong, x_beyond}

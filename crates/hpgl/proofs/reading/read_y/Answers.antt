@@ -1,5 +1,4 @@
 -- `hpgl::reading::read_y` meets its contract. Assumes nothing.
-use borrow.Author.Rules.{rules}
 use Rattle.hpgl.specs.ReadingLaws.{number_ends, y_at, y_wrong, y_beyond}
 use Rattle.hpgl.proofs.Signed.{within_back}
 use Rattle.hpgl.proofs.reading.read_y.Goals as goal

@@ -1,5 +1,4 @@
 -- `hpgl::reading::store` meets its contract. Assumes nothing.
-use borrow.Author.Rules.{rules}
 use native.Mathlib.Omega.{arith}
 use lib.ListN.{length-set}
 use Rattle.numbers.proofs.Integers.{read_back}

@@ -1,5 +1,4 @@
 -- `hpgl::reading::value_of` meets its contract. Assumes nothing.
-use borrow.Author.Rules.{rules}
 use Rattle.numbers.proofs.Integers.{plus, minus, minus_fits}
 use mathlib.Core.Path.{◌∙◌}
 use Prim.Native.Nat.{◌+◌}

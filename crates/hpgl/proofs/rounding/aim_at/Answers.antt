@@ -1,5 +1,4 @@
 -- `hpgl::rounding::aim_at` meets its contract. Assumes nothing.
-use borrow.Author.Rules.{rules}
 use Rattle.hpgl.specs.Form.{range_of}
 use Rattle.hpgl.specs.Bits.{aims_bad_x, aims_bad_y, aims_to}
 use Rattle.hpgl.proofs.rounding.aim_at.Goals as goal

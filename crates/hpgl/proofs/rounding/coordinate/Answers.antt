@@ -1,5 +1,4 @@
 -- `hpgl::rounding::coordinate` meets its contract. Assumes nothing.
-use borrow.Author.Rules.{rules}
 use Rattle.hpgl.specs.Bits.{far_bad, size_bad, size_good}
 use Rattle.hpgl.proofs.rounding.coordinate.Goals as goal
 

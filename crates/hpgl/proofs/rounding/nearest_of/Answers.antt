@@ -1,5 +1,4 @@
 -- `hpgl::rounding::nearest_of` meets its contract. Assumes nothing.
-use borrow.Author.Rules.{rules}
 use native.Mathlib.Nat.{mod-le, div-le_self}
 use native.Mathlib.Omega.{arith}
 use Rattle.hpgl.specs.Bits.{closest_below, closest_above, closest_tie}

@@ -1,5 +1,5 @@
 -- `hpgl::write_decimal` meets its contract. Assumes nothing.
-use Rattle.std.proofs.Common.{ℕ, ◌+◌, sym, ap, ◌∙◌, arith}
+use Rattle.std.proofs.Common.{ℕ, ◌+◌, sym, ap, arith}
 use Rattle.hpgl.specs.TextLaws.{length_small, length_tens, store_small, store_tens}
 use Rattle.hpgl.proofs.text.+write_decimal.Goals as goal
 

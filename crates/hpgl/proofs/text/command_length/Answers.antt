@@ -1,5 +1,4 @@
 -- `hpgl::text::command_length` meets its contract. Assumes nothing.
-use borrow.Author.Rules.{rules}
 use Rattle.hpgl.specs.CommandLaws.{command_size}
 use Rattle.hpgl.proofs.text.command_length.Goals as goal
 

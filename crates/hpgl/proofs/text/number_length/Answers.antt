@@ -1,5 +1,4 @@
 -- `hpgl::text::number_length` meets its contract. Assumes nothing.
-use borrow.Author.Rules.{rules}
 use Rattle.hpgl.specs.TextLaws.{long_zero, long_minus, long_plus}
 use Rattle.hpgl.proofs.text.number_length.Goals as goal
 

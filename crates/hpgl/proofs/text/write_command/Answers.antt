@@ -1,5 +1,4 @@
 -- `hpgl::write_command` meets its contract. Assumes nothing.
-use borrow.Author.Rules.{rules}
 use Rattle.hpgl.specs.CommandLaws.{room_p, room_letter, room_x, room_y, command_stored}
 use Rattle.hpgl.proofs.text.write_command.Goals as goal
 

@@ -1,5 +1,4 @@
 -- `hpgl::write_ended` meets its contract. Assumes nothing.
-use borrow.Author.Rules.{rules}
 use mathlib.Core.List.{[], ◌∷◌}
 use Rattle.hpgl.specs.Text.{numeral, signed_of}
 use Rattle.hpgl.specs.TextLaws.{first_room, second_room, then_stored}

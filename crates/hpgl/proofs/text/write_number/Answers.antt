@@ -1,5 +1,4 @@
 -- `hpgl::write_number` meets its contract. Assumes nothing.
-use borrow.Author.Rules.{rules}
 use mathlib.Core.Path.{◌∙◌}
 use lib.ListN.{length-set}
 use Rattle.hpgl.specs.Text.{decimal, numeral, signed_of}

@@ -1,5 +1,4 @@
 -- `mender::cases::case_of` meets its contract. Assumes nothing.
-use borrow.Author.Rules.{rules}
 use Rattle.checker.proofs.Steps.{none_left}
 use Rattle.mender.specs.Mend.{IsCase}
 use Rattle.mender.specs.CaseLaws.{none_uneven, some_uneven}

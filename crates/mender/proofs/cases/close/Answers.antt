@@ -1,7 +1,6 @@
 -- `mender::cases::close` meets its contract. Assumes nothing.
 use mathlib.Core.Path.{sym, ◌∙◌}
 use mathlib.Core.Logic.{inl, inr}
-use borrow.Author.Rules.{rules}
 use Rattle.checker.proofs.Steps.{none_left}
 use Rattle.mender.specs.CaseLaws.{other_unmended, far_unmended, none_other_mended}
 use Rattle.mender.proofs.cases.close.Goals as goal

@@ -2,7 +2,6 @@
 use Prim.Native.Nat.{ℕ, ◌+◌}
 use mathlib.Core.Path.{◌≡◌}
 use mathlib.Core.List.{List}
-use borrow.Author.Rules.{rules}
 use Rattle.records.specs.Record.{starts, ends}
 use Rattle.checker.specs.Verdict.{key_at}
 use Rattle.checker.proofs.Steps.{none_left}

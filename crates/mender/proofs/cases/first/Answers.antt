@@ -1,9 +1,5 @@
 -- `mender::cases::first` meets its contract. Assumes nothing.
-use Prim.Native.Nat.{◌-◌}
-use native.Mathlib.Omega.{arith}
-use borrow.Author.Rules.{rules}
-use Rattle.checker.proofs.Steps.{Passed, start, pass, stop, end}
-use Rattle.mender.specs.Sought.{sought_at}
+use Rattle.checker.proofs.Steps.{start, pass, stop, end}
 use Rattle.mender.proofs.cases.first.Goals as goal
 
 pub loop-k-init : goal.loop-k-init

@@ -1,8 +1,6 @@
 -- `mender::cases::first` meets its contract. Assumes nothing.
 use Prim.Native.Nat.{◌-◌}
-use native.Mathlib.Omega.{arith}
-use borrow.Author.Rules.{rules}
-use Rattle.checker.proofs.Steps.{Passed, start, pass, stop, end}
+use Rattle.checker.proofs.Steps.{Passed}
 use Rattle.mender.specs.Sought.{sought_at}
 use Rattle.mender.proofs.cases.first.Given as goal
 

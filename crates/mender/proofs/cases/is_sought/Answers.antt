@@ -1,5 +1,4 @@
 -- `mender::cases::is_sought` meets its contract. Assumes nothing.
-use borrow.Author.Rules.{rules}
 use Rattle.mender.specs.Sought.{is_sought}
 use Rattle.mender.proofs.cases.is_sought.Goals as goal
 

@@ -1,6 +1,5 @@
 -- `mender::cases::sought_at` meets its contract. Assumes nothing.
 use mathlib.Core.Path.{sym, ◌∙◌}
-use borrow.Author.Rules.{rules}
 use borrow.Author.Tests.{eq-eqb, ne_eqb}
 use Rattle.mender.specs.Sought.{sought_at}
 use Rattle.mender.proofs.cases.sought_at.Goals as goal

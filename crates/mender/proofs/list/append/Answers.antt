@@ -5,7 +5,6 @@ use mathlib.Core.List.{List}
 use native.Mathlib.Omega.{arith}
 use lib.ListN.{length}
 use lib.Seq.{sets}
-use borrow.Author.Rules.{rules}
 use Rattle.mender.specs.Mend.{line_of}
 use Rattle.mender.specs.Report.{appended_of}
 use Rattle.mender.specs.declared.cases.Case.{Case}

@@ -4,7 +4,6 @@ use mathlib.Core.Path.{refl}
 use mathlib.Core.List.{List}
 use native.Mathlib.Omega.{arith}
 use lib.ListN.{length, length-append}
-use borrow.Author.Rules.{rules}
 use Rattle.records.specs.Record.{count}
 use Rattle.mender.specs.Report.{lines_of, Fits, Counted, Mends}
 use Rattle.mender.proofs.list.fill.Goals as goal

@@ -4,7 +4,6 @@ use mathlib.Core.Path.{◌≡◌, refl}
 use mathlib.Core.List.{[], ◌∷◌}
 use native.Mathlib.Omega.{arith}
 use lib.ListN.{length}
-use borrow.Author.Rules.{rules}
 use denote.Enum.Declared.{tag_of}
 use types.Run.{OneOf}
 use Rattle.mender.specs.Report.{appended_of}

@@ -1,8 +1,6 @@
 -- `mender::list::look` meets its contract. Assumes nothing.
 use Prim.Native.Nat.{◌-◌}
-use native.Mathlib.Omega.{arith}
-use borrow.Author.Rules.{rules}
-use Rattle.mender.proofs.Plans.{Planned, none_planned, plan_more, all_planned}
+use Rattle.mender.proofs.Plans.{Planned}
 use Rattle.mender.proofs.list.look.Given as goal
 
 abbrev pub invariant-loop-k : goal.invariant-loop-k

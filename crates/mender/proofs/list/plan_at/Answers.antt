@@ -1,7 +1,6 @@
 -- `mender::list::plan_at` meets its contract. Assumes nothing.
 use mathlib.Core.Path.{sym, ap, ◌∙◌}
 use lib.ListN.{length}
-use borrow.Author.Rules.{rules}
 use Rattle.mender.specs.ReportLaws.{nothing_at, new_at, said_six}
 use Rattle.mender.proofs.list.plan_at.Goals as goal
 

@@ -1,5 +1,4 @@
 -- `mender::list::said` meets its contract. Assumes nothing.
-use borrow.Author.Rules.{rules}
 use Rattle.mender.specs.Report.{said_of}
 use Rattle.mender.proofs.list.said.Goals as goal
 

@@ -3,7 +3,6 @@ use Prim.Native.Nat.{ℕ}
 use mathlib.Core.Path.{ap, ◌∙◌}
 use mathlib.Core.List.{List}
 use lib.Seq.{sets}
-use borrow.Author.Rules.{rules}
 use Rattle.mender.proofs.list.say.Goals as goal
 
 pub returns : goal.returns

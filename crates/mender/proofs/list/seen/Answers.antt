@@ -1,10 +1,9 @@
 -- `mender::list::seen` meets its contract. Assumes nothing.
-use Prim.Native.Nat.{ℕ, ◌-◌, ◌≤◌}
+use Prim.Native.Nat.{ℕ, ◌≤◌}
 use mathlib.Core.Path.{◌≡◌, refl, sym, ap, ◌∙◌}
 use mathlib.Core.Bool.{false}
 use mathlib.Core.List.{List}
 use native.Mathlib.Omega.{arith}
-use borrow.Author.Rules.{rules}
 use Rattle.mender.specs.Report.{seen_in}
 use Rattle.mender.specs.ReportLaws.{seen_later, seen_there}
 use Rattle.mender.proofs.list.seen.Goals as goal

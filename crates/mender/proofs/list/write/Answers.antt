@@ -1,7 +1,5 @@
 -- `mender::list::write` meets its contract. Assumes nothing.
-use Prim.Native.Nat.{◌-◌}
-use native.Mathlib.Omega.{arith}
-use Rattle.mender.proofs.Plans.{Wrote, none_wrote, same_room, same_report, wrote_room, wrote_more, all_wrote}
+use Rattle.mender.proofs.Plans.{none_wrote, same_room, same_report, wrote_room, wrote_more, all_wrote}
 use Rattle.mender.proofs.list.write.Goals as goal
 
 pub loop-k-init : goal.loop-k-init

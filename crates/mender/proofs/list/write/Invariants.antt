@@ -1,7 +1,6 @@
 -- `mender::list::write` meets its contract. Assumes nothing.
 use Prim.Native.Nat.{◌-◌}
-use native.Mathlib.Omega.{arith}
-use Rattle.mender.proofs.Plans.{Wrote, none_wrote, same_room, same_report, wrote_room, wrote_more, all_wrote}
+use Rattle.mender.proofs.Plans.{Wrote}
 use Rattle.mender.proofs.list.write.Given as goal
 
 abbrev pub invariant-loop-k : goal.invariant-loop-k

@@ -1,8 +1,6 @@
 -- `mender::near::below` meets its contract. Assumes nothing.
 use Prim.Native.Nat.{◌+◌}
-use borrow.Author.Rules.{rules}
-use native.Mathlib.Omega.{arith}
-use Rattle.mender.proofs.Halves.{size, shrinks, Halving, begun, halve, carry_room, halved_out}
+use Rattle.mender.proofs.Halves.{size, Halving}
 use Rattle.mender.proofs.near.below.Given as goal
 
 abbrev pub invariant-loop-u : goal.invariant-loop-u

@@ -1,6 +1,5 @@
 -- `mender::near::carried` meets its contract. Assumes nothing.
 use native.Mathlib.Omega.{arith}
-use borrow.Author.Rules.{rules}
 use Rattle.mender.proofs.Halves.{left_bit}
 use Rattle.mender.proofs.near.carried.Goals as goal
 

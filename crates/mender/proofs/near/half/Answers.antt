@@ -2,7 +2,6 @@
 use Prim.Native.Nat.{ℕ, zero, suc, ◌-◌, ◌/◌}
 use mathlib.Core.Path.{◌≡◌, refl}
 use native.Mathlib.Omega.{arith}
-use borrow.Author.Rules.{rules}
 use Rattle.mender.specs.declared.near.Scaled.{Scaled}
 use Rattle.mender.specs.Scaled.{halved}
 use Rattle.mender.proofs.near.half.Goals as goal

@@ -1,7 +1,6 @@
 -- `mender::near::near_across` meets its contract. Assumes nothing.
 use mathlib.Core.Path.{ap, ◌∙◌}
 use mathlib.Core.Bool.{not}
-use borrow.Author.Rules.{rules}
 use Rattle.mender.specs.Scaled.{value_of}
 use Rattle.mender.proofs.Halves.{across}
 use Rattle.mender.proofs.near.near_across.Goals as goal

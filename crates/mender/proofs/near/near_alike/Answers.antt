@@ -1,5 +1,4 @@
 -- `mender::near::near_alike` meets its contract. Assumes nothing.
-use borrow.Author.Rules.{rules}
 use Rattle.mender.specs.Scaled.{value_of}
 use Rattle.mender.proofs.Halves.{alike}
 use Rattle.mender.proofs.near.near_alike.Goals as goal

@@ -1,5 +1,4 @@
 -- `numbers::select::first` meets its contract. Assumes nothing.
-use Rattle.std.proofs.Common.{rules}
 use Rattle.numbers.specs.Select.{before}
 use Rattle.numbers.proofs.select.first.Goals as goal
 

@@ -1,5 +1,4 @@
 -- `numbers::select::max` meets its contract. Assumes nothing.
-use Rattle.std.proofs.Common.{rules}
 use Rattle.numbers.specs.Select.{max_of}
 use Rattle.numbers.specs.WordsLaws.{nan_test}
 use Rattle.numbers.proofs.select.max.Goals as goal

@@ -1,5 +1,4 @@
 -- `numbers::select::min` meets its contract. Assumes nothing.
-use Rattle.std.proofs.Common.{rules}
 use Rattle.numbers.specs.Select.{min_of}
 use Rattle.numbers.specs.WordsLaws.{nan_test}
 use Rattle.numbers.proofs.select.min.Goals as goal

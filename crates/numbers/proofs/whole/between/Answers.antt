@@ -1,5 +1,5 @@
 -- `numbers::whole::between` meets its contract. Assumes nothing.
-use Rattle.std.proofs.Common.{ℕ, Bool, true, false, T, pos, neg_ℤ, sym, ap, ◌∙◌, subst, le_trans, le_of_eq, rules}
+use Rattle.std.proofs.Common.{ℕ, Bool, true, false, T, pos, neg_ℤ, sym, ap, ◌∙◌, subst, le_trans, le_of_eq}
 use Rattle.numbers.specs.Words.{signed}
 use Rattle.numbers.specs.Whole.{span_of}
 use Rattle.numbers.proofs.Spans.{both, ended}

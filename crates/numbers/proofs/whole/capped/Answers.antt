@@ -1,5 +1,5 @@
 -- `numbers::whole::capped` meets its contract. Assumes nothing.
-use Rattle.std.proofs.Common.{◌∙◌, rules}
+use Rattle.std.proofs.Common.{◌∙◌}
 use Rattle.numbers.proofs.Integers.{read_back, least, most, uncapped}
 use Rattle.numbers.proofs.whole.capped.Goals as goal
 

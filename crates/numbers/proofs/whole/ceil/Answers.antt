@@ -1,5 +1,4 @@
 -- `numbers::whole::ceil` meets its contract. Assumes nothing.
-use Rattle.std.proofs.Common.{rules}
 use Rattle.numbers.specs.Whole.{ceil_of}
 use Rattle.numbers.proofs.whole.ceil.Goals as goal
 

@@ -1,5 +1,4 @@
 -- `numbers::whole::ceil_i32` meets its contract. Assumes nothing.
-use Rattle.std.proofs.Common.{rules}
 use Rattle.numbers.specs.Whole.{ceil_of}
 use Rattle.numbers.proofs.Integers.{read_back}
 use Rattle.numbers.proofs.whole.ceil_i32.Goals as goal

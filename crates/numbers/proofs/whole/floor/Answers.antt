@@ -1,5 +1,4 @@
 -- `numbers::whole::floor` meets its contract. Assumes nothing.
-use Rattle.std.proofs.Common.{rules}
 use Rattle.numbers.specs.Whole.{floor_of}
 use Rattle.numbers.proofs.whole.floor.Goals as goal
 

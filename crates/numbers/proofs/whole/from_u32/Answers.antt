@@ -1,5 +1,5 @@
 -- `numbers::whole::from_u32` meets its contract. Assumes nothing.
-use Rattle.std.proofs.Common.{arith, rules}
+use Rattle.std.proofs.Common.{arith}
 use Rattle.numbers.proofs.Integers.{small_exact}
 use Rattle.numbers.proofs.whole.from_u32.Goals as goal
 

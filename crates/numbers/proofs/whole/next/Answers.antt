@@ -1,5 +1,4 @@
 -- `numbers::whole::next` meets its contract. Assumes nothing.
-use Rattle.std.proofs.Common.{rules}
 use Rattle.numbers.proofs.whole.next.Goals as goal
 
 pub returns-then-more : goal.returns-then-more

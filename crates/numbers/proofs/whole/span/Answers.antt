@@ -1,5 +1,5 @@
 -- `numbers::whole::span` meets its contract. Assumes nothing.
-use Rattle.std.proofs.Common.{sym, ap, ◌∙◌, rules}
+use Rattle.std.proofs.Common.{sym, ap, ◌∙◌}
 use lib.Ieee.{of_bits, neg}
 use Rattle.numbers.specs.Words.{signed}
 use Rattle.numbers.specs.Whole.{span_of}

@@ -1,5 +1,4 @@
 -- `numbers::whole::to_i32` meets its contract. Assumes nothing.
-use Rattle.std.proofs.Common.{rules}
 use Rattle.numbers.proofs.Integers.{as_signed}
 use Rattle.numbers.proofs.whole.to_i32.Goals as goal
 

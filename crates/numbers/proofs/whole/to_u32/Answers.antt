@@ -1,5 +1,4 @@
 -- `numbers::whole::to_u32` meets its contract. Assumes nothing.
-use Rattle.std.proofs.Common.{rules}
 use Rattle.numbers.specs.Whole.{part_of}
 use Rattle.numbers.proofs.whole.to_u32.Goals as goal
 

@@ -1,5 +1,5 @@
 -- `numbers::whole::to_whole` meets its contract. Assumes nothing.
-use Rattle.std.proofs.Common.{Bool, not, T, sym, ap, ◌∙◌, subst, rules}
+use Rattle.std.proofs.Common.{Bool, not, T, sym, ap, ◌∙◌, subst}
 use lib.Ieee.{Float, of_bits, lt}
 use Rattle.numbers.specs.Words.{sign_of, signed}
 use Rattle.numbers.specs.WordsLaws.{abs_clear}

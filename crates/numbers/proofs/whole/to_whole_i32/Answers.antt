@@ -1,5 +1,5 @@
 -- `numbers::whole::to_whole_i32` meets its contract. Assumes nothing.
-use Rattle.std.proofs.Common.{ℕ, Bool, cond, not, T, pos, neg_ℤ, sym, ap, ◌∙◌, subst, le_trans, le_of_eq, rules}
+use Rattle.std.proofs.Common.{ℕ, Bool, cond, not, T, pos, neg_ℤ, sym, ap, ◌∙◌, subst, le_trans, le_of_eq}
 use lib.Ieee.{Float, of_bits, lt, to_signed}
 use Rattle.numbers.specs.Words.{sign_of}
 use Rattle.numbers.specs.WordsLaws.{abs_clear}

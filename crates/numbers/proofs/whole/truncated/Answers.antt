@@ -1,6 +1,6 @@
 -- `numbers::whole::truncated` meets its contract. Assumes nothing.
 use Rattle.std.proofs.Common.{ℕ, ◌<◌, sym, ◌∙◌, subst}
-use lib.Ieee.{of_bits, neg, fits}
+use lib.Ieee.{of_bits, neg}
 use Rattle.numbers.proofs.Bits.{yes, no}
 use Rattle.numbers.proofs.Integers.{below_wide, within_u32, above_u32, below_u32}
 use Rattle.numbers.proofs.whole.truncated.Goals as goal

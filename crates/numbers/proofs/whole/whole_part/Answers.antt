@@ -1,5 +1,4 @@
 -- `numbers::whole::whole_part` meets its contract. Assumes nothing.
-use Rattle.std.proofs.Common.{rules}
 use lib.Ieee.{of_bits}
 use Rattle.numbers.specs.Whole.{part_of}
 use Rattle.numbers.proofs.Bits.{yes, positive}

@@ -1,5 +1,4 @@
 -- `numbers::whole::with_sign` meets its contract. Assumes nothing.
-use Rattle.std.proofs.Common.{rules}
 use Rattle.numbers.proofs.Integers.{plus, minus, minus_fits}
 use Rattle.numbers.proofs.whole.with_sign.Goals as goal
 

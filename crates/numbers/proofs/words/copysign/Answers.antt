@@ -1,5 +1,4 @@
 -- `numbers::words::copysign` meets its contract. Assumes nothing.
-use Rattle.std.proofs.Common.{rules}
 use Rattle.numbers.specs.Words.{copysign_of}
 use Rattle.numbers.proofs.words.copysign.Goals as goal
 

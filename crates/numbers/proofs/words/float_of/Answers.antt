@@ -1,5 +1,5 @@
 -- `numbers::words::float_of` meets its contract. Assumes nothing.
-use Rattle.std.proofs.Common.{◌≡◌, sym, refl, ◌∙◌, arith, rules}
+use Rattle.std.proofs.Common.{◌≡◌, sym, refl, ◌∙◌, arith}
 use lib.Ieee.{nan, binary32, of_bits, div}
 use Rattle.numbers.proofs.Bits.{nan_word, number_word}
 use Rattle.numbers.proofs.words.float_of.Goals as goal

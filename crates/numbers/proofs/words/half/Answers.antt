@@ -1,5 +1,5 @@
 -- `numbers::words::half` meets its contract. Assumes nothing.
-use Rattle.std.proofs.Common.{ℕ, ◌+◌, ◌*◌, ◌/◌, ◌%◌, false, pos, ap, ◌∙◌, arith, rules}
+use Rattle.std.proofs.Common.{ℕ, ◌+◌, ◌*◌, ◌/◌, ◌%◌, false, pos, ap, ◌∙◌, arith}
 use lib.Ieee.{Float, fin, binary32, of_bits, mul}
 use Rattle.numbers.proofs.Halves.{finite_half, top_half}
 use Rattle.numbers.proofs.words.half.Goals as goal

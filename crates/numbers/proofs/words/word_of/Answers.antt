@@ -1,5 +1,5 @@
 -- `numbers::words::word_of` meets its contract. Assumes nothing.
-use Rattle.std.proofs.Common.{◌≡◌, sym, refl, ap, ◌∙◌, rules}
+use Rattle.std.proofs.Common.{◌≡◌, sym, refl, ap, ◌∙◌}
 use lib.Ieee.{nan, binary32, to_bits}
 use Rattle.numbers.proofs.Bits.{is_nan_lem, is_number}
 use Rattle.numbers.proofs.words.word_of.Goals as goal

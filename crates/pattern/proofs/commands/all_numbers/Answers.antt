@@ -1,10 +1,10 @@
 -- `pattern::commands::all_numbers` meets its contract: the words before the place reached are numbers, so that the rest decides. Assumes nothing.
-use Prim.Native.Nat.{◌≤◌, ◌-◌}
-use mathlib.Core.Path.{◌≡◌, refl, sym, ap, ◌∙◌}
+use Prim.Native.Nat.{◌≤◌}
+use mathlib.Core.Path.{refl, sym, ap, ◌∙◌}
 use mathlib.Core.Bool.{not}
 use native.Mathlib.Numerals.{add-one}
 use native.Mathlib.Omega.{arith}
-use lib.ListN.{length, take, drop, drop_of_length-le, length-take}
+use lib.ListN.{length, take, drop_of_length-le, length-take}
 use lib.Ieee.Scale.{finite}
 use Rattle.scene.specs.Reading.{all_finite}
 use Rattle.pattern.specs.Commands.{floats_of, numbers}

@@ -1,14 +1,8 @@
 -- `pattern::commands::all_numbers` meets its contract: the words before the place reached are numbers, so that the rest decides. Assumes nothing.
 use Prim.Native.Nat.{◌≤◌, ◌-◌}
-use mathlib.Core.Path.{◌≡◌, refl, sym, ap, ◌∙◌}
-use mathlib.Core.Bool.{not}
-use native.Mathlib.Numerals.{add-one}
-use native.Mathlib.Omega.{arith}
-use lib.ListN.{length, take, drop, drop_of_length-le, length-take}
-use lib.Ieee.Scale.{finite}
-use Rattle.scene.specs.Reading.{all_finite}
-use Rattle.pattern.specs.Commands.{floats_of, numbers}
-use Rattle.pattern.proofs.Laws.{one_more_lem, one_bad}
+use mathlib.Core.Path.{◌≡◌}
+use lib.ListN.{take, drop}
+use Rattle.pattern.specs.Commands.{numbers}
 use Rattle.pattern.proofs.commands.all_numbers.Given as goal
 
 abbrev pub invariant-loop-k : goal.invariant-loop-k

@@ -1,6 +1,5 @@
 -- `pattern::commands::end` meets its contract. Assumes nothing.
 use mathlib.Core.Path.{◌∙◌}
-use borrow.Author.Rules.{rules}
 use Rattle.pattern.specs.Commands.{place_of}
 use Rattle.pattern.proofs.Laws.{ends}
 use Rattle.pattern.proofs.commands.end.Goals as goal

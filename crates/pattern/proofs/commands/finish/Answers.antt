@@ -1,6 +1,5 @@
 -- `pattern::commands::finish` meets its contract. Assumes nothing.
 use mathlib.Core.Path.{sym, ◌∙◌}
-use borrow.Author.Rules.{rules}
 use Rattle.pattern.specs.Commands.{words_of}
 use Rattle.pattern.specs.Drawn.{soundly}
 use Rattle.pattern.proofs.Laws.{nothing_due, move_due, end_due, line_due}

@@ -1,6 +1,5 @@
 -- `pattern::commands::have_room` meets its contract. Assumes nothing.
 use mathlib.Core.Path.{sym, ◌∙◌}
-use borrow.Author.Rules.{rules}
 use Rattle.pattern.proofs.commands.have_room.Goals as goal
 
 pub returns-then-has_room : goal.returns-then-has_room

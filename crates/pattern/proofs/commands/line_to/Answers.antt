@@ -1,6 +1,5 @@
 -- `pattern::commands::line_to` meets its contract. Assumes nothing.
 use mathlib.Core.Path.{◌∙◌}
-use borrow.Author.Rules.{rules}
 use Rattle.pattern.specs.Commands.{words_of, line, spots, target, tag_of}
 use Rattle.pattern.specs.Drawn.{drawn_is}
 use Rattle.pattern.proofs.commands.line_to.Goals as goal

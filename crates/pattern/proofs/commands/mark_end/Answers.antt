@@ -1,5 +1,4 @@
 -- `pattern::commands::mark_end` meets its contract. Assumes nothing.
-use borrow.Author.Rules.{rules}
 use Rattle.pattern.proofs.Laws.{none_counted, not_lent, is_lent}
 use Rattle.pattern.proofs.commands.mark_end.Goals as goal
 

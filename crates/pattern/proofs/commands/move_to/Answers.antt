@@ -1,7 +1,5 @@
 -- `pattern::commands::move_to` meets its contract. Assumes nothing.
 use mathlib.Core.Path.{sym, ◌∙◌}
-use borrow.Author.Rules.{rules}
-use borrow.Author.Tests.{not-true, not-false}
 use Rattle.pattern.specs.Commands.{words_of, place_of}
 use Rattle.pattern.proofs.Laws.{bad_move, moves}
 use Rattle.pattern.proofs.commands.move_to.Goals as goal

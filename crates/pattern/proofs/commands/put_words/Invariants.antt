@@ -1,11 +1,8 @@
 -- `pattern::commands::put_words` meets its contract: after k turns the first k words are set. Assumes nothing.
-use Prim.Native.Nat.{ℕ, suc, ◌+◌, ◌-◌, ◌%◌, ◌<◌, ◌≤◌}
-use mathlib.Core.Path.{◌≡◌, refl}
-use mathlib.Core.List.{List}
-use native.Mathlib.Omega.{arith}
-use lib.ListN.{length, get_or, set, take, length-set}
-use lib.Seq.{sets, length-sets}
-use Rattle.pattern.proofs.Laws.{one_put}
+use Prim.Native.Nat.{◌-◌, ◌%◌, ◌≤◌}
+use mathlib.Core.Path.{◌≡◌}
+use lib.ListN.{take}
+use lib.Seq.{sets}
 use Rattle.pattern.proofs.commands.put_words.Given as goal
 
 abbrev pub invariant-loop-k : goal.invariant-loop-k

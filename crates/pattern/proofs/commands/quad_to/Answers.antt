@@ -1,6 +1,5 @@
 -- `pattern::commands::quad_to` meets its contract. Assumes nothing.
 use mathlib.Core.Path.{◌∙◌}
-use borrow.Author.Rules.{rules}
 use Rattle.pattern.specs.Commands.{words_of, quad, spots, target, tag_of}
 use Rattle.pattern.specs.Drawn.{drawn_is}
 use Rattle.pattern.proofs.commands.quad_to.Goals as goal

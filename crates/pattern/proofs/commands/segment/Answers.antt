@@ -1,7 +1,6 @@
 -- `pattern::commands::segment` meets its contract. Assumes nothing.
 use Prim.Native.Nat.{◌≤◌}
 use native.Mathlib.Omega.{arith}
-use borrow.Author.Rules.{rules}
 use lib.ListN.{length}
 use Rattle.pattern.proofs.Laws.{nothing_open, first_drawn, more_drawn}
 use Rattle.pattern.proofs.commands.segment.Goals as goal

@@ -1,5 +1,4 @@
 -- `pattern::commands::verdict` meets its contract. Assumes nothing.
-use borrow.Author.Tests.{not-true, not-false}
 use Rattle.pattern.specs.Drawn.{verdict_of}
 use Rattle.pattern.proofs.commands.verdict.Goals as goal
 

@@ -1,5 +1,4 @@
 -- `pattern::commands::with_end` meets its contract. Assumes nothing.
-use borrow.Author.Rules.{rules}
 use borrow.Author.Tests.{eq-eqb, ne_eqb}
 use Rattle.pattern.specs.Commands.{ended}
 use Rattle.pattern.proofs.commands.with_end.Goals as goal

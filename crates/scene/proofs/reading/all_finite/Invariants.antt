@@ -1,7 +1,6 @@
 -- `scene::reading::all_finite` meets its contract: the numbers before the place reached are finite, so that the rest decides. Assumes nothing.
-use Rattle.std.proofs.Common.{◌≡◌, ◌-◌, ◌≤◌, not, drop, sym, refl, ap, ◌∙◌, add-one, arith, drop_of_length-le, rules}
+use Rattle.std.proofs.Common.{◌≡◌, ◌-◌, ◌≤◌, drop}
 use Rattle.scene.specs.Reading.{all_finite}
-use Rattle.scene.proofs.Finite.{one_more_lem, one_bad}
 use Rattle.scene.proofs.reading.all_finite.Given as goal
 
 abbrev pub invariant-loop-k : goal.invariant-loop-k

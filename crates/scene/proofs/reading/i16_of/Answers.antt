@@ -1,5 +1,5 @@
 -- `scene::reading::i16_of` meets its contract. Assumes nothing.
-use Rattle.std.proofs.Common.{◌≡◌, ◌+◌, ◌-◌, arith, rules, le-ltb, lt-ltb}
+use Rattle.std.proofs.Common.{◌≡◌, ◌+◌, ◌-◌, arith, le-ltb, lt-ltb}
 use Rattle.scene.specs.Reading.{i16_of}
 use Rattle.scene.proofs.reading.i16_of.Goals as goal
 

@@ -1,5 +1,5 @@
 -- `scene::reading::in_reach` meets its contract. Assumes nothing.
-use Rattle.std.proofs.Common.{arith, rules}
+use Rattle.std.proofs.Common.{arith}
 use Rattle.scene.specs.Reading.{point_count}
 use Rattle.scene.proofs.Points.{beyond, within}
 use Rattle.scene.proofs.reading.in_reach.Goals as goal

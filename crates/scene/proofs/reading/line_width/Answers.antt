@@ -1,5 +1,5 @@
 -- `scene::reading::line_width` meets its contract. Assumes nothing.
-use Rattle.std.proofs.Common.{◌+◌, ◌^◌, ◌<◌, arith, rules, le-ltb, lt-ltb}
+use Rattle.std.proofs.Common.{◌+◌, ◌^◌, ◌<◌, arith, le-ltb, lt-ltb}
 use Rattle.scene.specs.Reading.{width_of}
 use Rattle.scene.proofs.reading.line_width.Goals as goal
 

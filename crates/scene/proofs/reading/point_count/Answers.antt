@@ -1,5 +1,5 @@
 -- `scene::reading::point_count` meets its contract. Assumes nothing.
-use Rattle.std.proofs.Common.{arith, rules}
+use Rattle.std.proofs.Common.{arith}
 use Rattle.scene.specs.Reading.{point_count}
 use Rattle.scene.proofs.reading.point_count.Goals as goal
 

@@ -1,5 +1,5 @@
 -- `scene::reading::point_words` meets its contract. Assumes nothing.
-use Rattle.std.proofs.Common.{arith, rules}
+use Rattle.std.proofs.Common.{arith}
 use Rattle.scene.specs.Reading.{point_words}
 use Rattle.scene.proofs.reading.point_words.Goals as goal
 

@@ -1,5 +1,4 @@
 -- `scene::reading::read_f32_point` meets its contract. Assumes nothing.
-use Rattle.std.proofs.Common.{rules}
 use Rattle.scene.specs.Reading.{f32_point}
 use Rattle.scene.proofs.reading.read_f32_point.Goals as goal
 

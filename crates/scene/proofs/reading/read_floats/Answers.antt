@@ -1,5 +1,4 @@
 -- `scene::reading::read_floats` meets its contract. Assumes nothing.
-use Rattle.std.proofs.Common.{rules}
 use Rattle.scene.specs.Reading.{floats_at}
 use Rattle.scene.proofs.reading.read_floats.Goals as goal
 

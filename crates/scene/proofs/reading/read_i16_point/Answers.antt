@@ -1,5 +1,5 @@
 -- `scene::reading::read_i16_point` meets its contract. Assumes nothing.
-use Rattle.std.proofs.Common.{arith, rules}
+use Rattle.std.proofs.Common.{arith}
 use Rattle.scene.specs.Reading.{i16_point}
 use Rattle.scene.proofs.reading.read_i16_point.Goals as goal
 

@@ -1,5 +1,5 @@
 -- `scene::reading::read_path_segment` meets its contract. Assumes nothing.
-use Rattle.std.proofs.Common.{sym, ◌∙◌, arith, rules}
+use Rattle.std.proofs.Common.{sym, ◌∙◌, arith}
 use lib.Ieee.{of_bits, round}
 use Rattle.scene.specs.Reading.{segment_of}
 use Rattle.scene.proofs.Points.{inside}

@@ -1,5 +1,5 @@
 -- `scene::reading::read_point` meets its contract. Assumes nothing.
-use Rattle.std.proofs.Common.{◌≡◌, ◌+◌, ◌*◌, ◌≤◌, length, arith, rules}
+use Rattle.std.proofs.Common.{◌≡◌, ◌+◌, ◌*◌, ◌≤◌, length, arith}
 use Rattle.scene.specs.Reading.{point_words, point_at}
 use Rattle.scene.proofs.reading.read_point.Goals as goal
 

@@ -1,6 +1,5 @@
 -- `scene::tags::compute_tag_monoid` meets its contract. Assumes nothing.
-use Rattle.std.proofs.Common.{sym, ap, ◌∙◌, rules}
-use Rattle.refusals.specs.Refusals.{told}
+use Rattle.std.proofs.Common.{sym, ap, ◌∙◌}
 use Rattle.refusals.proofs.Laws.{told_once}
 use Rattle.scene.specs.Words.{word_read}
 use Rattle.scene.specs.Tags.{tag_of, tag_in}

@@ -1,5 +1,5 @@
 -- `scene::tags::prefix_at` meets its contract. Assumes nothing.
-use Rattle.std.proofs.Common.{rules, le-ltb, lt-ltb}
+use Rattle.std.proofs.Common.{le-ltb, lt-ltb}
 use Rattle.scene.specs.Tags.{prefix_at}
 use Rattle.scene.proofs.tags.prefix_at.Goals as goal
 

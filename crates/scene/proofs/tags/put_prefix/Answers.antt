@@ -1,5 +1,5 @@
 -- `scene::tags::put_prefix` meets its contract. Assumes nothing.
-use Rattle.std.proofs.Common.{arith, length-set, rules}
+use Rattle.std.proofs.Common.{arith, length-set}
 use Rattle.scene.proofs.Laws.{four_sets}
 use Rattle.scene.proofs.tags.put_prefix.Goals as goal
 

@@ -1,7 +1,7 @@
 -- `scene::tags::scan` meets its contract. After i turns the first i prefixes are filled, the words behind are as lent, and the sums are those of the next prefix.
 -- Assumes nothing.
-use Rattle.std.proofs.Common.{◌≡◌, ◌-◌, ◌≤◌, arith}
-use Rattle.scene.proofs.Laws.{Filling, begin, turn, as_long, past, done}
+use Rattle.std.proofs.Common.{◌≡◌, arith}
+use Rattle.scene.proofs.Laws.{begin, turn, as_long, past, done}
 use Rattle.scene.proofs.tags.scan.Goals as goal
 
 pub returns-then-base-scene : goal.returns-then-base-scene
@@ -16,11 +16,10 @@ pub put_prefix-requires : goal.put_prefix-requires
 put_prefix-requires c = omega (arith, as_long c.loop-i.invariant.1)
 
 pub loop-i-preserved : goal.loop-i-preserved
-loop-i-preserved c =
-    (
-      omega arith,
-      turn c.loop-i.invariant.1 (omega arith) c.put_prefix.ensures c.new.ensures c.combine-sums.ensures,
-    )
+loop-i-preserved c = (
+  omega arith,
+  turn c.loop-i.invariant.1 (omega arith) c.put_prefix.ensures c.new.ensures c.combine-sums.ensures,
+)
 
 pub returns : goal.returns
 returns c =

@@ -1,7 +1,7 @@
 -- `scene::tags::scan` meets its contract. After i turns the first i prefixes are filled, the words behind are as lent, and the sums are those of the next prefix.
 -- Assumes nothing.
-use Rattle.std.proofs.Common.{◌≡◌, ◌-◌, ◌≤◌, arith}
-use Rattle.scene.proofs.Laws.{Filling, begin, turn, as_long, past, done}
+use Rattle.std.proofs.Common.{◌-◌, ◌≤◌}
+use Rattle.scene.proofs.Laws.{Filling}
 use Rattle.scene.proofs.tags.scan.Given as goal
 
 abbrev pub invariant-loop-i : goal.invariant-loop-i

@@ -1,5 +1,5 @@
 -- `scene::tags::sums_below` meets its contract: so far the sums are those before the place reached. Assumes nothing.
-use Rattle.std.proofs.Common.{◌≡◌, ◌-◌, ◌≤◌, refl, add-one, arith}
+use Rattle.std.proofs.Common.{◌≡◌, ◌-◌, ◌≤◌}
 use Rattle.scene.specs.Tags.{sums_below}
 use Rattle.scene.proofs.tags.sums_below.Given as goal
 

@@ -1,5 +1,5 @@
 -- `scene::tags::tag_sums` meets its contract. Assumes nothing.
-use Rattle.std.proofs.Common.{refl, arith, rules}
+use Rattle.std.proofs.Common.{refl, arith}
 use Rattle.scene.specs.Tags.{tag_sums}
 use Rattle.scene.proofs.Laws.{few}
 use Rattle.scene.proofs.tags.tag_sums.Goals as goal

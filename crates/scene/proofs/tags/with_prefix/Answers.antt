@@ -1,5 +1,5 @@
 -- `scene::tags::with_prefix` meets its contract. Assumes nothing.
-use Rattle.std.proofs.Common.{sym, ◌∙◌, rules, eq-eqb, ne_eqb}
+use Rattle.std.proofs.Common.{sym, ◌∙◌, eq-eqb, ne_eqb}
 use Rattle.scene.specs.Tags.{with_prefix}
 use Rattle.scene.proofs.tags.with_prefix.Goals as goal
 

@@ -1,6 +1,5 @@
 -- `scene::words::word_at` meets its contract. Assumes nothing.
-use Rattle.std.proofs.Common.{rules, le-ltb, lt-ltb}
-use Rattle.refusals.specs.Refusals.{told}
+use Rattle.std.proofs.Common.{le-ltb, lt-ltb}
 use Rattle.scene.specs.Words.{word_at}
 use Rattle.scene.proofs.words.word_at.Goals as goal
 

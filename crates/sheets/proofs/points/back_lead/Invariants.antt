@@ -1,10 +1,7 @@
 -- `sheets::points::back_lead` meets its contract. Assumes nothing.
-use borrow.Author.Tests.{not-true, not-false}
-use Rattle.sheets.proofs.Laws.{back_stop, back_on, back_end}
 use Prim.Native.Nat.{◌≤◌, ◌-◌, ◌+◌}
-use mathlib.Core.Path.{◌≡◌, refl, sym, ◌∙◌, ap}
-use native.Mathlib.Omega.{arith}
-use lib.ListN.{length, drop, take, get_or}
+use mathlib.Core.Path.{◌≡◌}
+use lib.ListN.{drop, take}
 use Rattle.sheets.specs.Moving.{lead, goes_back}
 use Rattle.sheets.proofs.points.back_lead.Given as goal
 

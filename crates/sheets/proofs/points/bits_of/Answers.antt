@@ -1,7 +1,6 @@
 -- `sheets::points::bits_of` meets its contract. Assumes nothing.
 use borrow.Author.Tests.{lt-ltb, le-ltb, eq-eqb, ne_eqb}
 use Rattle.sheets.specs.Written.{bits_of}
-use borrow.Author.Rules.{rules}
 use Rattle.sheets.proofs.points.bits_of.Goals as goal
 
 pub returns-then-size-gt32768 : goal.returns-then-size-gt32768

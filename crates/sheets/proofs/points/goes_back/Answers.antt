@@ -1,7 +1,6 @@
 -- `sheets::points::goes_back` meets its contract. Assumes nothing.
 use native.Mathlib.Omega.{arith}
 use Rattle.sheets.proofs.Halves.{test_of}
-use borrow.Author.Rules.{rules}
 use Rattle.sheets.proofs.points.goes_back.Goals as goal
 
 pub returns : goal.returns

@@ -1,6 +1,5 @@
 -- `sheets::points::half_of` meets its contract. Assumes nothing.
 use Rattle.sheets.proofs.Halves.{candidate_by}
-use borrow.Author.Rules.{rules}
 use Rattle.sheets.proofs.points.half_of.Goals as goal
 
 pub returns : goal.returns

@@ -1,5 +1,4 @@
 -- `sheets::points::joined` meets its contract. Assumes nothing.
-use borrow.Author.Rules.{rules}
 use Rattle.sheets.proofs.points.joined.Goals as goal
 
 pub returns : goal.returns

@@ -1,7 +1,6 @@
 -- `sheets::points::put_point` meets its contract. Assumes nothing.
 use native.Mathlib.Omega.{arith}
 use lib.ListN.{length-set}
-use borrow.Author.Rules.{rules}
 use Rattle.sheets.proofs.points.put_point.Goals as goal
 
 pub bounds-out-at-2 : goal.bounds-out-at-2

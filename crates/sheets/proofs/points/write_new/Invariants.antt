@@ -1,9 +1,6 @@
 -- `sheets::points::write_new` meets its contract. Assumes nothing.
-use Prim.Native.Nat.{◌≤◌, ◌-◌, ◌+◌}
-use mathlib.Core.Path.{◌≡◌, refl, sym, ◌∙◌, ap}
-use native.Mathlib.Omega.{arith}
-use lib.ListN.{length, drop, get_or, length-set}
-use Rattle.sheets.proofs.Laws.{Widened, widened_none, widened_out, widened_next, widened_all}
+use Prim.Native.Nat.{◌-◌}
+use Rattle.sheets.proofs.Laws.{Widened}
 use Rattle.sheets.proofs.points.write_new.Given as goal
 
 abbrev pub invariant-loop-i : goal.invariant-loop-i

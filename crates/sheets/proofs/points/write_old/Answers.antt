@@ -1,9 +1,7 @@
 -- `sheets::points::write_old` meets its contract. Assumes nothing.
-use Prim.Native.Nat.{◌≤◌, ◌-◌, ◌+◌}
-use mathlib.Core.Path.{◌≡◌, refl, sym, ◌∙◌, ap}
+use mathlib.Core.Path.{refl}
 use native.Mathlib.Omega.{arith}
-use lib.ListN.{length, drop, take, get_or}
-use Rattle.sheets.proofs.Laws.{Narrowed, narrowed_none, narrowed_out, narrowed_next, narrowed_all, back_at}
+use Rattle.sheets.proofs.Laws.{narrowed_none, narrowed_out, narrowed_next, narrowed_all, back_at}
 use Rattle.sheets.proofs.points.write_old.Goals as goal
 
 pub loop-i-init : goal.loop-i-init

@@ -1,9 +1,6 @@
 -- `sheets::points::write_old` meets its contract. Assumes nothing.
-use Prim.Native.Nat.{◌≤◌, ◌-◌, ◌+◌}
-use mathlib.Core.Path.{◌≡◌, refl, sym, ◌∙◌, ap}
-use native.Mathlib.Omega.{arith}
-use lib.ListN.{length, drop, take, get_or}
-use Rattle.sheets.proofs.Laws.{Narrowed, narrowed_none, narrowed_out, narrowed_next, narrowed_all, back_at}
+use Prim.Native.Nat.{◌-◌}
+use Rattle.sheets.proofs.Laws.{Narrowed}
 use Rattle.sheets.proofs.points.write_old.Given as goal
 
 abbrev pub invariant-loop-i : goal.invariant-loop-i

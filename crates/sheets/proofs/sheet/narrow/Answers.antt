@@ -1,7 +1,6 @@
 -- `sheets::sheet::narrow` meets its contract. Assumes nothing.
 use native.Mathlib.Omega.{arith}
 use Rattle.sheets.proofs.Ways.{i16_not_whole, i16_no_tags, i16_no_points, i16_done, whole_all}
-use borrow.Author.Rules.{rules}
 use Rattle.sheets.proofs.sheet.narrow.Goals as goal
 
 pub returns-then-at-m : goal.returns-then-at-m

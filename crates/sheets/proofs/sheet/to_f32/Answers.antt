@@ -4,7 +4,6 @@ use native.Mathlib.Omega.{arith}
 use lib.ListN.{length}
 use Rattle.sheets.specs.Moving.{is_old}
 use Rattle.sheets.proofs.Ways.{f32_wrong, f32_missing, sum_says, lead_all}
-use borrow.Author.Rules.{rules}
 use Rattle.sheets.proofs.sheet.to_f32.Goals as goal
 
 pub returns-then-at-tags : goal.returns-then-at-tags

@@ -5,7 +5,6 @@ use native.Mathlib.Omega.{arith}
 use lib.ListN.{length}
 use Rattle.sheets.specs.Moving.{is_new}
 use Rattle.sheets.proofs.Ways.{i16_wrong, i16_missing, sum_says, lead_all}
-use borrow.Author.Rules.{rules}
 use Rattle.sheets.proofs.sheet.to_i16.Goals as goal
 
 pub returns-then-at-tags : goal.returns-then-at-tags

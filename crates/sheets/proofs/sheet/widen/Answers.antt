@@ -1,7 +1,6 @@
 -- `sheets::sheet::widen` meets its contract. Assumes nothing.
 use native.Mathlib.Omega.{arith}
 use Rattle.sheets.proofs.Ways.{f32_no_tags, f32_no_points, f32_done}
-use borrow.Author.Rules.{rules}
 use Rattle.sheets.proofs.sheet.widen.Goals as goal
 
 pub returns-then-new_tags-tags : goal.returns-then-new_tags-tags

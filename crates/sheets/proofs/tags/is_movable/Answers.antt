@@ -2,7 +2,6 @@
 use mathlib.Core.Path.{sym, ◌∙◌}
 use mathlib.Core.Bool.{true, false}
 use Rattle.sheets.proofs.Laws.{movable_is}
-use borrow.Author.Rules.{rules}
 use Rattle.sheets.proofs.tags.is_movable.Goals as goal
 
 pub returns-then-to_f32 : goal.returns-then-to_f32

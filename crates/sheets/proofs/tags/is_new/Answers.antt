@@ -1,6 +1,5 @@
 -- `sheets::tags::is_new` meets its contract. Assumes nothing.
 use Rattle.sheets.proofs.Laws.{new_none, new_bit}
-use borrow.Author.Rules.{rules}
 use Rattle.sheets.proofs.tags.is_new.Goals as goal
 
 pub returns-then-count_of-eq0 : goal.returns-then-count_of-eq0

@@ -1,6 +1,5 @@
 -- `sheets::tags::is_old` meets its contract. Assumes nothing.
 use Rattle.sheets.proofs.Laws.{old_none, old_bit}
-use borrow.Author.Rules.{rules}
 use Rattle.sheets.proofs.tags.is_old.Goals as goal
 
 pub returns-then-count_of-eq0 : goal.returns-then-count_of-eq0

@@ -1,11 +1,7 @@
 -- `sheets::tags::lead_of` meets its contract. Assumes nothing.
-use borrow.Author.Tests.{not-true, not-false}
 use Rattle.sheets.proofs.Laws.{lead_stop, lead_on, lead_end}
-use Prim.Native.Nat.{◌≤◌, ◌-◌, ◌+◌}
-use mathlib.Core.Path.{◌≡◌, sym, ◌∙◌, ap}
+use mathlib.Core.Path.{sym, ◌∙◌}
 use native.Mathlib.Omega.{arith}
-use lib.ListN.{length, drop}
-use Rattle.sheets.specs.Moving.{lead}
 use Rattle.sheets.specs.Written.{movable}
 use Rattle.sheets.proofs.tags.lead_of.Goals as goal
 

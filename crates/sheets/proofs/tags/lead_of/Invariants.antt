@@ -1,9 +1,6 @@
 -- `sheets::tags::lead_of` meets its contract. Assumes nothing.
-use borrow.Author.Tests.{not-true, not-false}
-use Rattle.sheets.proofs.Laws.{lead_stop, lead_on, lead_end}
 use Prim.Native.Nat.{◌≤◌, ◌-◌, ◌+◌}
-use mathlib.Core.Path.{◌≡◌, sym, ◌∙◌, ap}
-use native.Mathlib.Omega.{arith}
+use mathlib.Core.Path.{◌≡◌}
 use lib.ListN.{length, drop}
 use Rattle.sheets.specs.Moving.{lead}
 use Rattle.sheets.specs.Written.{movable}

@@ -1,7 +1,6 @@
 -- `sheets::tags::new_tag` meets its contract. Assumes nothing.
 use native.Mathlib.Omega.{arith}
 use Rattle.sheets.proofs.Laws.{new_same, new_more, room_above}
-use borrow.Author.Rules.{rules}
 use Rattle.sheets.proofs.tags.new_tag.Goals as goal
 
 pub returns-then-count_of-eq0 : goal.returns-then-count_of-eq0

@@ -1,6 +1,5 @@
 -- `sheets::tags::old_tag` meets its contract. Assumes nothing.
 use Rattle.sheets.proofs.Laws.{old_same, old_less, room_below}
-use borrow.Author.Rules.{rules}
 use Rattle.sheets.proofs.tags.old_tag.Goals as goal
 
 pub returns-then-count_of-eq0 : goal.returns-then-count_of-eq0

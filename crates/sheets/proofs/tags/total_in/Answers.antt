@@ -1,10 +1,6 @@
 -- `sheets::tags::total_in` meets its contract. Assumes nothing.
 use Rattle.sheets.proofs.Laws.{total_over, total_on, total_end}
-use Prim.Native.Nat.{◌≤◌, ◌-◌, ◌+◌}
-use mathlib.Core.Path.{◌≡◌, sym, ◌∙◌, ap}
 use native.Mathlib.Omega.{arith}
-use lib.ListN.{length, drop}
-use Rattle.sheets.specs.Moving.{total}
 use Rattle.sheets.proofs.tags.total_in.Goals as goal
 
 pub loop-i-init : goal.loop-i-init

@@ -1,8 +1,6 @@
 -- `sheets::tags::total_in` meets its contract. Assumes nothing.
-use Rattle.sheets.proofs.Laws.{total_over, total_on, total_end}
 use Prim.Native.Nat.{◌≤◌, ◌-◌, ◌+◌}
-use mathlib.Core.Path.{◌≡◌, sym, ◌∙◌, ap}
-use native.Mathlib.Omega.{arith}
+use mathlib.Core.Path.{◌≡◌}
 use lib.ListN.{length, drop}
 use Rattle.sheets.specs.Moving.{total}
 use Rattle.sheets.proofs.tags.total_in.Given as goal

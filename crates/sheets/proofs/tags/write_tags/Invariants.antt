@@ -1,11 +1,8 @@
 -- `sheets::tags::write_tags` meets its contract. Assumes nothing.
-use Prim.Native.Nat.{◌≤◌, ◌-◌, ◌+◌}
-use mathlib.Core.Path.{◌≡◌, refl, sym, ◌∙◌, ap}
-use native.Mathlib.Omega.{arith}
-use lib.ListN.{length, drop, get_or, length-set}
-use Rattle.sheets.proofs.Laws.{Copied, copied_none, copied_out, copied_next, copied_all}
-use Rattle.sheets.specs.Written.{movable, turned_tag}
-use Rattle.sheets.specs.Back.{all_says}
+use Prim.Native.Nat.{◌-◌}
+use lib.ListN.{length}
+use Rattle.sheets.proofs.Laws.{Copied}
+use Rattle.sheets.specs.Written.{turned_tag}
 use Rattle.sheets.proofs.tags.write_tags.Given as goal
 
 abbrev pub invariant-loop-i : goal.invariant-loop-i

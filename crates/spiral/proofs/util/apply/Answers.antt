@@ -1,7 +1,6 @@
 -- `spiral::util::apply` meets its contract. Assumes nothing.
 use mathlib.Core.Path.{refl}
 use Rattle.spiral.specs.Util.{apply_of}
-use borrow.Author.Rules.{rules}
 use Rattle.spiral.proofs.util.apply.Goals as goal
 
 pub returns : goal.returns

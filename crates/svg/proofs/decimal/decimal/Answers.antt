@@ -1,12 +1,8 @@
 -- `svg::decimal::decimal` meets its contract. Assumes nothing.
-use mathlib.Core.Path.{◌≡◌, refl, sym, ap, ◌∙◌, subst}
-use mathlib.Core.Bool.{Bool, true, false, cond, not}
-use Prim.Native.Nat.{ℕ, ◌+◌, ◌*◌, ◌^◌, ◌≤◌, ◌<◌, min}
+use mathlib.Core.Path.{◌≡◌, sym, ap, ◌∙◌}
+use mathlib.Core.Bool.{Bool, true, false, cond}
+use Prim.Native.Nat.{ℕ, ◌+◌, ◌^◌}
 use native.Mathlib.Omega.{arith}
-use borrow.Author.Rules.{rules}
-use lib.Dec.{T}
-use lib.Ieee.{Float, binary32, to_bits, of_bits, round}
-use Rattle.svg.specs.Decimal.{RatioBits, decimal_of}
 use Rattle.svg.proofs.Lifting.{zero_word, word_is}
 use Rattle.svg.proofs.decimal.decimal.Goals as goal
 

@@ -1,6 +1,4 @@
 -- `svg::decimal::lift` meets its contract. Assumes nothing.
-use Prim.Native.Nat.{◌≤◌}
-use native.Mathlib.Nat.{le_trans}
 use native.Mathlib.Omega.{arith}
 use lib.Count.{count_leading_zeros, leading_top, leading_le}
 use Rattle.svg.proofs.Lifting.{lifted}

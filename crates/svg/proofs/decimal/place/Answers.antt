@@ -1,6 +1,5 @@
 -- `svg::decimal::place` meets its contract. Assumes nothing.
 use native.Mathlib.Omega.{arith}
-use borrow.Author.Rules.{rules}
 use lib.Count.{count_leading_zeros, leading_top}
 use Rattle.svg.proofs.Lifting.{placed, few}
 use Rattle.svg.proofs.decimal.place.Goals as goal

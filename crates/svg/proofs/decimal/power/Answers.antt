@@ -1,6 +1,6 @@
 -- `svg::decimal::power` meets its contract. Assumes nothing.
 use mathlib.Core.Path.{◌≡◌, refl, sym, ap, ◌∙◌}
-use Prim.Native.Nat.{ℕ, ◌^◌, ◌≤◌, min}
+use Prim.Native.Nat.{ℕ, ◌^◌, min}
 use native.Mathlib.Omega.{arith}
 use Rattle.svg.proofs.decimal.power.Goals as goal
 

@@ -2,9 +2,8 @@
 use Prim.Native.Nat.{ℕ, ◌+◌, ◌-◌, ◌*◌, ◌/◌, ◌^◌, ◌≤◌, ◌<◌}
 use native.Mathlib.Nat.{le_trans, mul-le-mul_left, le-div_iff_mul-le, div-le_self, lt_trans, div-lt_iff_lt-mul}
 use native.Mathlib.Omega.{arith}
-use borrow.Author.Rules.{rules}
 use lib.Dec.{lit<}
-use Rattle.svg.specs.Decimal.{RatioBits, Lifted, Placed}
+use Rattle.svg.specs.Decimal.{RatioBits}
 use Rattle.svg.proofs.Rounding.{ratio_right}
 use Rattle.svg.proofs.decimal.ratio.Goals as goal
 

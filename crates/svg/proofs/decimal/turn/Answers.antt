@@ -5,7 +5,6 @@ use lib.Ieee.{nearest}
 use native.Mathlib.Omega.{arith}
 use native.Mathlib.Numerals.{add-one}
 use Rattle.roots.specs.Laws.{below, above, level}
-use borrow.Author.Rules.{rules}
 use Rattle.svg.proofs.decimal.turn.Goals as goal
 
 down : (q r m e : ℕ) → r < m → q ≡ nearest q (compare (2 * r + min e 1) (2 * m))

@@ -1,10 +1,5 @@
-
-use mathlib.Core.Path.{◌≡◌, refl, sym, ap, ◌∙◌, subst}
-use mathlib.Core.List.{List}
-use Prim.Native.Nat.{ℕ, ◌-◌, ◌≤◌, ◌<◌}
+use mathlib.Core.Path.{sym, ◌∙◌}
 use Rattle.svg.proofs.Calls.{restart_refused, restart_drawn, only_drawn}
-use Rattle.pattern.specs.Commands.{told}
-use borrow.Author.Rules.{rules}
 use Rattle.svg.proofs.hand.command.Goals as goal
 
 -- src/hand.rt:88:13

@@ -1,10 +1,6 @@
-
-use mathlib.Core.Path.{◌≡◌, refl, sym, ap, ◌∙◌, subst}
-use mathlib.Core.List.{List}
-use Prim.Native.Nat.{ℕ, ◌-◌, ◌≤◌, ◌<◌}
+use mathlib.Core.Path.{sym, ap}
 use Rattle.svg.specs.declared.steps.Kind.{Kind}
 use Rattle.svg.specs.Hands.{home_by}
-use borrow.Author.Rules.{rules}
 use Rattle.svg.proofs.hand.home_of.Goals as goal
 
 -- src/hand.rt:131:1

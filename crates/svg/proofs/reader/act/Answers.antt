@@ -1,13 +1,9 @@
-
-use mathlib.Core.Path.{◌≡◌, refl, sym, ap, ◌∙◌, subst}
-use mathlib.Core.List.{List}
-use Prim.Native.Nat.{ℕ, ◌-◌, ◌≤◌, ◌<◌}
+use mathlib.Core.Path.{sym, ap, ◌∙◌}
 use Rattle.svg.specs.declared.steps.Step.{Step}
 use Rattle.svg.specs.declared.hand.Hand.{Hand}
 use Rattle.svg.specs.declared.reader.Way.TheVariants.{On}
 use Rattle.svg.specs.Walk.{walk, left, act_by}
 use Rattle.svg.proofs.Calls.{settled_by_lem}
-use borrow.Author.Rules.{rules}
 use Rattle.svg.proofs.reader.act.Goals as goal
 
 -- src/reader.rt:110:1

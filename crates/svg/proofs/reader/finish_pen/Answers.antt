@@ -1,9 +1,5 @@
-
-use mathlib.Core.Path.{◌≡◌, refl, sym, ap, ◌∙◌, subst}
-use mathlib.Core.List.{List}
-use Prim.Native.Nat.{ℕ, ◌-◌, ◌≤◌, ◌<◌}
+use mathlib.Core.Path.{sym, ◌∙◌}
 use Rattle.svg.proofs.Calls.{end_drawn, end_refused}
-use borrow.Author.Rules.{rules}
 use Rattle.svg.proofs.reader.finish_pen.Goals as goal
 
 -- src/reader.rt:176:9

@@ -1,9 +1,5 @@
-
-use mathlib.Core.Path.{◌≡◌, refl, sym, ap, ◌∙◌, subst}
-use mathlib.Core.List.{List}
-use Prim.Native.Nat.{ℕ, ◌-◌, ◌≤◌, ◌<◌}
+use mathlib.Core.Path.{sym, ◌∙◌}
 use Rattle.svg.proofs.Calls.{last_number, last_out, last_plain}
-use borrow.Author.Rules.{rules}
 use Rattle.svg.proofs.reader.last.Goals as goal
 
 -- src/reader.rt:212:9

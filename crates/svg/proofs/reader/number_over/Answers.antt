@@ -1,11 +1,6 @@
-
-use mathlib.Core.Path.{◌≡◌, refl, sym, ap, ◌∙◌, subst}
-use mathlib.Core.List.{List}
-use Prim.Native.Nat.{ℕ, ◌-◌, ◌≤◌, ◌<◌}
 use native.Mathlib.Nat.{lt_of_lt_of_le}
 use Rattle.svg.proofs.Sounds.{arity_le}
 use Rattle.svg.proofs.Calls.{number_full, number_part}
-use borrow.Author.Rules.{rules}
 use Rattle.svg.proofs.reader.number_over.Goals as goal
 
 -- src/reader.rt:94:9

@@ -1,4 +1,3 @@
-
 use native.Mathlib.Omega.{arith}
 use Rattle.pattern.specs.declared.pen.Pen.{Pen}
 use Rattle.svg.specs.declared.steps.Symbol.{Symbol}
@@ -6,10 +5,9 @@ use Rattle.svg.specs.declared.reader.Walk.{Walk}
 use Rattle.svg.specs.Machine.{digit_of}
 use Rattle.svg.specs.Import.{import_of}
 use Rattle.svg.specs.Walk.{start_of}
-use Rattle.svg.proofs.Walks.{Here, to_go, less_number, less_go, less_on, here_start, here_step, here_over, here_end, here_number, over_number, as_one, go_sound, here_on, byte_digit}
-use mathlib.Core.Path.{◌≡◌, sym, ap, ◌∙◌, subst}
+use Rattle.svg.proofs.Walks.{less_number, less_go, less_on, here_start, here_step, here_over, here_end, here_number, over_number, as_one, go_sound, here_on, byte_digit}
+use mathlib.Core.Path.{sym, ap, ◌∙◌, subst}
 use Prim.Native.Nat.{◌≤◌}
-use borrow.Author.Rules.{rules}
 use Rattle.svg.proofs.reader.read.Goals as goal
 
 pub begin-w-requires : goal.begin-w-requires

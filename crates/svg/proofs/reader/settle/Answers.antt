@@ -1,13 +1,10 @@
-
-use mathlib.Core.Path.{◌≡◌, refl, sym, ap, ◌∙◌, subst}
-use mathlib.Core.List.{List}
-use Prim.Native.Nat.{ℕ, ◌-◌, ◌≤◌, ◌<◌}
+use mathlib.Core.Path.{sym, ap, ◌∙◌}
+use Prim.Native.Nat.{ℕ}
 use Rattle.svg.proofs.Reading.{pick_yes, pick_no}
 use borrow.Author.Tests.{eq-eqb, ne_eqb}
 use Rattle.svg.specs.declared.reader.Ending.TheVariants.{Undrawn}
 use Rattle.svg.specs.declared.reader.Way.TheVariants.{Over}
 use Rattle.svg.specs.Walk.{read_by}
-use borrow.Author.Rules.{rules}
 use Rattle.svg.proofs.reader.settle.Goals as goal
 
 -- src/reader.rt:77:9

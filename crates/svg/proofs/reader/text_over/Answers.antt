@@ -1,10 +1,6 @@
-
-use mathlib.Core.Path.{◌≡◌, refl, sym, ap, ◌∙◌, subst}
-use mathlib.Core.List.{List}
-use Prim.Native.Nat.{ℕ, ◌-◌, ◌≤◌, ◌<◌}
+use mathlib.Core.Path.{sym, ap, ◌∙◌}
 use Rattle.svg.specs.declared.steps.Verdict.{Verdict}
 use Rattle.svg.specs.Walk.{over_with}
-use borrow.Author.Rules.{rules}
 use Rattle.svg.proofs.reader.text_over.Goals as goal
 
 -- src/reader.rt:188:1

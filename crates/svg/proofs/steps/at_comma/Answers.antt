@@ -1,6 +1,5 @@
 -- `svg::steps::at_comma` meets its contract. Assumes nothing.
 use mathlib.Core.Path.{sym, ◌∙◌}
-use borrow.Author.Rules.{rules}
 use Rattle.svg.proofs.Places.{comma_white, comma_other}
 use Rattle.svg.proofs.steps.at_comma.Goals as goal
 

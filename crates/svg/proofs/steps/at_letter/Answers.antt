@@ -1,6 +1,5 @@
 -- `svg::steps::at_letter` meets its contract. Assumes nothing.
 use mathlib.Core.Path.{sym, ◌∙◌}
-use borrow.Author.Rules.{rules}
 use Rattle.svg.proofs.Places.{letter_white, letter_other}
 use Rattle.svg.proofs.steps.at_letter.Goals as goal
 

@@ -1,7 +1,6 @@
 -- `svg::steps::finish` meets its contract. Assumes nothing.
-use mathlib.Core.Path.{◌≡◌, sym, ◌∙◌, ap}
-use Prim.Native.Nat.{ℕ, ◌+◌}
-use borrow.Author.Rules.{rules}
+use mathlib.Core.Path.{ap}
+use Prim.Native.Nat.{ℕ}
 use Rattle.svg.specs.Machine.{st}
 use Rattle.svg.specs.declared.steps.Place.TheVariants.{AtGap}
 use Rattle.svg.proofs.steps.finish.Goals as goal

@@ -1,8 +1,7 @@
 -- `svg::steps::fraction_digit` meets its contract. Assumes nothing.
-use mathlib.Core.Path.{◌≡◌, sym}
-use Prim.Native.Nat.{◌+◌, ◌≤◌, ◌<◌}
+use mathlib.Core.Path.{sym}
+use Prim.Native.Nat.{◌<◌}
 use native.Mathlib.Omega.{arith}
-use borrow.Author.Rules.{rules}
 use borrow.Author.Tests.{lt-ltb, le-ltb}
 use Rattle.svg.proofs.Reading.{room, pick_yes, pick_no}
 use Rattle.svg.proofs.steps.fraction_digit.Goals as goal

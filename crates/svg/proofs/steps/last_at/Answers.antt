@@ -1,8 +1,7 @@
 -- `svg::steps::last_at` meets its contract. Assumes nothing.
-use mathlib.Core.Path.{◌≡◌, sym, ap, ◌∙◌}
+use mathlib.Core.Path.{sym, ap, ◌∙◌}
 use Rattle.svg.specs.declared.steps.Place.{Place}
 use Rattle.svg.specs.Machine.{last}
-use borrow.Author.Rules.{rules}
 use Rattle.svg.proofs.steps.last_at.Goals as goal
 
 pub returns-in-AtLetter : goal.returns-in-AtLetter

@@ -1,9 +1,7 @@
 -- `svg::steps::letter` meets its contract. Assumes nothing.
-use mathlib.Core.Path.{◌≡◌, sym, ap, ◌∙◌}
-use Prim.Native.Nat.{ℕ}
+use mathlib.Core.Path.{◌≡◌, sym, ap}
 use native.Mathlib.Nat.{lt_irrefl}
 use native.Mathlib.Omega.{arith}
-use borrow.Author.Rules.{rules}
 use Rattle.svg.specs.Language.{letter_of}
 use Rattle.svg.proofs.Reading.{letter_rest}
 use Rattle.svg.proofs.steps.letter.Goals as goal

@@ -1,9 +1,7 @@
 -- `svg::steps::mark` meets its contract. Assumes nothing.
 use mathlib.Core.Path.{◌≡◌, sym, ap, ◌∙◌}
-use Prim.Native.Nat.{ℕ}
 use native.Mathlib.Nat.{lt_irrefl}
 use native.Mathlib.Omega.{arith}
-use borrow.Author.Rules.{rules}
 use Rattle.svg.specs.Language.{mark_of}
 use Rattle.svg.proofs.Reading.{mark_rest}
 use Rattle.svg.proofs.steps.mark.Goals as goal

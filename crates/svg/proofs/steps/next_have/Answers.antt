@@ -1,7 +1,6 @@
 -- `svg::steps::next_have` meets its contract. Assumes nothing.
-use mathlib.Core.Path.{◌≡◌, sym, ◌∙◌}
-use Prim.Native.Nat.{ℕ, ◌+◌}
-use borrow.Author.Rules.{rules}
+use mathlib.Core.Path.{sym, ◌∙◌}
+use Prim.Native.Nat.{◌+◌}
 use borrow.Author.Tests.{eq-eqb, ne_eqb}
 use Rattle.svg.proofs.Reading.{pick_yes, pick_no}
 use Rattle.svg.proofs.steps.next_have.Goals as goal

@@ -1,14 +1,8 @@
 -- `svg::steps::opens` meets its contract. Assumes nothing.
-use mathlib.Core.Path.{◌≡◌, sym, ap, ◌∙◌, subst}
-use mathlib.Core.Bool.{Bool}
-use Prim.Native.Nat.{ℕ, ◌≤◌}
-use native.Mathlib.Omega.{arith}
-use borrow.Author.Rules.{rules}
-use Rattle.svg.specs.declared.steps.Kind.{Kind}
+use mathlib.Core.Path.{sym, ap, ◌∙◌, subst}
+use Prim.Native.Nat.{◌≤◌}
 use Rattle.svg.specs.declared.steps.Symbol.{Symbol}
-use Rattle.svg.specs.declared.steps.Place.{Place}
-use Rattle.svg.specs.declared.steps.Place.TheVariants.{AtStart, AtLetter, AtSign, InWhole, AtPoint, InFraction, AtGap, AtComma, AtClose}
-use Rattle.svg.specs.Machine.{Held, digit_of, num, move, opens_of, first_letter, ended}
+use Rattle.svg.specs.Machine.{digit_of, opens_of}
 use Rattle.svg.proofs.Places.{fresh}
 use Rattle.svg.proofs.steps.opens.Goals as goal
 

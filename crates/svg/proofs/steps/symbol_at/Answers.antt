@@ -1,6 +1,5 @@
 -- `svg::steps::symbol_at` meets its contract. Assumes nothing.
-use mathlib.Core.Path.{◌≡◌, sym, ◌∙◌}
-use borrow.Author.Rules.{rules}
+use mathlib.Core.Path.{sym, ◌∙◌}
 use Rattle.svg.proofs.Reading.{digit_bounds, symbol_digit, symbol_white, symbol_mark}
 use Rattle.svg.proofs.steps.symbol_at.Goals as goal
 

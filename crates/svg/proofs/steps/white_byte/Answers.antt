@@ -1,9 +1,7 @@
 -- `svg::steps::white_byte` meets its contract. Assumes nothing.
-use mathlib.Core.Path.{◌≡◌, sym, ap, ◌∙◌}
-use Prim.Native.Nat.{ℕ}
+use mathlib.Core.Path.{◌≡◌, sym, ap}
 use native.Mathlib.Nat.{lt_irrefl}
 use native.Mathlib.Omega.{arith}
-use borrow.Author.Rules.{rules}
 use Rattle.svg.specs.Language.{white_byte}
 use Rattle.svg.proofs.Reading.{white_rest}
 use Rattle.svg.proofs.steps.white_byte.Goals as goal

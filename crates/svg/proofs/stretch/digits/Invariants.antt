@@ -1,13 +1,7 @@
 -- `svg::stretch::digits` meets its contract. Assumes nothing.
-use mathlib.Core.Path.{◌≡◌, sym, ◌∙◌}
-use mathlib.Core.Bool.{true}
-use Prim.Native.Nat.{◌-◌, ◌≤◌, ◌<◌}
-use lib.ListN.{length, get_or}
-use native.Mathlib.Omega.{arith}
-use Rattle.svg.specs.Language.{digit_byte}
+use Prim.Native.Nat.{◌-◌}
+use lib.ListN.{length}
 use Rattle.svg.specs.Stretch.{Digits}
-use Rattle.svg.proofs.Reading.{room, digit_bounds}
-use Rattle.svg.proofs.Stretches.{digit_told, digits_none, digits_more}
 use Rattle.svg.proofs.stretch.digits.Given as goal
 
 abbrev pub invariant-loop-n : goal.invariant-loop-n

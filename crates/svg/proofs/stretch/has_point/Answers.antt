@@ -1,6 +1,5 @@
 -- `svg::stretch::has_point` meets its contract. Assumes nothing.
 use mathlib.Core.Path.{sym}
-use borrow.Author.Rules.{rules}
 use borrow.Author.Tests.{lt-ltb, le-ltb}
 use Rattle.svg.proofs.Reading.{pick_yes, pick_no}
 use Rattle.svg.proofs.stretch.has_point.Goals as goal

@@ -2,7 +2,6 @@
 use mathlib.Core.Path.{refl, sym, ◌∙◌}
 use Prim.Native.Nat.{◌+◌}
 use native.Mathlib.Omega.{arith}
-use borrow.Author.Rules.{rules}
 use Rattle.svg.proofs.Reading.{below_power}
 use Rattle.svg.proofs.Stretches.{point_told, onward_none, onward_then, whole_ran, whole_point}
 use Rattle.svg.proofs.stretch.whole_on.Goals as goal

@@ -1,6 +1,5 @@
 -- `drawing::line::Ink::dried` meets its contract. Assumes nothing.
 use mathlib.Core.Path.{refl}
-use borrow.Author.Rules.{rules}
 use Rattle.drawing.specs.Page.{dried_of}
 use Rattle.drawing.proofs.line.Ink.dried.Goals as goal
 

@@ -1,6 +1,5 @@
 -- `drawing::line::Reach::add_pt` meets its contract. Assumes nothing.
 use mathlib.Core.Path.{refl}
-use borrow.Author.Rules.{rules}
 use Rattle.drawing.specs.Page.{reach_with}
 use Rattle.drawing.proofs.line.Reach.add_pt.Goals as goal
 

@@ -4,7 +4,6 @@ use mathlib.Core.Path.{◌≡◌, ap, ◌∙◌}
 use mathlib.Core.List.{List}
 use lib.IntN.{ℤ, pos}
 use lib.ListN.{get_or}
-use borrow.Author.Rules.{rules}
 use Rattle.drawing.specs.Page.{whole_box}
 use Rattle.drawing.proofs.Bounds.{back, boxed}
 use Rattle.drawing.proofs.line.Reach.whole.Goals as goal

@@ -1,5 +1,4 @@
 -- `flatten::call::Answer::told` meets its contract. Assumes nothing.
-use Rattle.std.proofs.Common.{rules}
 use Rattle.flatten.specs.Call.{told_of}
 use Rattle.flatten.proofs.call.Answer.told.Goals as goal
 

@@ -1,5 +1,4 @@
 -- `hpgl::export::Cut::report` meets its contract. Assumes nothing.
-use borrow.Author.Rules.{rules}
 use Rattle.hpgl.specs.Export.{cut_report}
 use Rattle.hpgl.proofs.export.Cut.report.Goals as goal
 

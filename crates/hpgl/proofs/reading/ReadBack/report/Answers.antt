@@ -1,5 +1,4 @@
 -- `hpgl::reading::ReadBack::report` meets its contract. Assumes nothing.
-use borrow.Author.Rules.{rules}
 use Rattle.hpgl.specs.Reading.{back_report}
 use Rattle.hpgl.proofs.reading.ReadBack.report.Goals as goal
 

@@ -1,5 +1,4 @@
 -- `mender::list::Outcome::told` meets its contract. Assumes nothing.
-use borrow.Author.Rules.{rules}
 use Rattle.mender.specs.Report.{told_of}
 use Rattle.mender.proofs.list.Outcome.told.Goals as goal
 

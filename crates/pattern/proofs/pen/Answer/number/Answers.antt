@@ -1,5 +1,4 @@
 -- `pattern::pen::Answer::number` meets its contract. Assumes nothing.
-use borrow.Author.Rules.{rules}
 use Rattle.pattern.specs.Commands.{number_of}
 use Rattle.pattern.proofs.pen.Answer.number.Goals as goal
 

@@ -1,5 +1,4 @@
 -- `scene::tags::PathMonoid::new` meets its contract. Assumes nothing.
-use Rattle.std.proofs.Common.{rules}
 use Rattle.scene.specs.Tags.{word_sums}
 use Rattle.scene.proofs.tags.PathMonoid.new.Goals as goal
 

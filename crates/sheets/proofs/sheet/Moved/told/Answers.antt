@@ -1,6 +1,5 @@
 -- `sheets::sheet::Moved::told` meets its contract. Assumes nothing.
 use mathlib.Core.Path.{◌∙◌}
-use borrow.Author.Rules.{rules}
 use Rattle.sheets.specs.Written.{told_of}
 use Rattle.sheets.proofs.sheet.Moved.told.Goals as goal
 

@@ -1,9 +1,5 @@
-
-use mathlib.Core.Path.{◌≡◌, refl, sym, ap, ◌∙◌, subst}
-use mathlib.Core.List.{List}
-use Prim.Native.Nat.{ℕ, ◌-◌, ◌≤◌, ◌<◌}
-use Rattle.svg.specs.Import.{report_of, report}
-use borrow.Author.Rules.{rules}
+use mathlib.Core.Path.{sym, ap}
+use Rattle.svg.specs.Import.{report_of}
 use Rattle.svg.proofs.reader.Ending.report.Goals as goal
 
 -- src/reader.rt:272:5

@@ -1,9 +1,5 @@
-
-use mathlib.Core.Path.{◌≡◌, refl, sym, ap, ◌∙◌, subst}
-use mathlib.Core.List.{List}
-use Prim.Native.Nat.{ℕ, ◌-◌, ◌≤◌, ◌<◌}
+use mathlib.Core.Path.{sym, ap}
 use Rattle.svg.specs.Import.{fault_number}
-use borrow.Author.Rules.{rules}
 use Rattle.svg.proofs.steps.Fault.number.Goals as goal
 
 -- src/steps.rt:71:5

@@ -1,0 +1,8 @@
+-- `exports::convert::hinth_to_f32` meets its contract. Assumes nothing.
+use borrow.Author.Rules.{rules}
+use Rattle.exports.proofs.Converted.{reported}
+use Rattle.exports.proofs.convert.hinth_to_f32.Goals as goal
+
+pub returns : goal.returns
+returns c =
+    reported c.to_f32.result c.told-told.result _ _ c.to_f32.ensures c.told-told.ensures c.put_three.ensures

@@ -1,0 +1,7 @@
+-- `exports::profiling::hinth_profile` meets its contract. Assumes nothing.
+use Rattle.exports.proofs.Profiled.{reported}
+use borrow.Author.Rules.{rules}
+use Rattle.exports.proofs.profiling.hinth_profile.Goals as goal
+
+pub returns : goal.returns
+returns c = reported c.test_scene.result _ c.told-told.result _ c.test_scene.ensures c.told-told.ensures c.put_three.ensures

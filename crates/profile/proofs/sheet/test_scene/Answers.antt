@@ -1,0 +1,29 @@
+-- `profile::sheet::test_scene` meets its contract. Assumes nothing.
+use mathlib.Core.Path.{sym, ◌∙◌}
+use borrow.Author.Tests.{lt-ltb, le-ltb}
+use Rattle.flatten.specs.Call.{first_turn, start_of}
+use Rattle.profile.specs.Verdict.{started_by, profile_of}
+use Rattle.profile.specs.Passed.{all_read}
+use Rattle.profile.proofs.Passes.{by_all, by_refused}
+use borrow.Author.Rules.{rules}
+use Rattle.profile.proofs.sheet.test_scene.Goals as goal
+
+pub returns-then-scene-layout : goal.returns-then-scene-layout
+unfolding profile_of started_by start_of first_turn
+returns-then-scene-layout c = rw (lt-ltb _ _ c.if-scene-layout.true)
+
+pub returns-then-scene-layout-2 : goal.returns-then-scene-layout-2
+unfolding profile_of started_by start_of first_turn
+returns-then-scene-layout-2 c = rw (le-ltb _ _ c.if-scene-layout.false, lt-ltb _ _ c.if-scene-layout-2.true)
+
+pub rules-requires : goal.rules-requires
+rules-requires c =
+    let k = by_all _ _ _ c.read_all.ensures c.in-All.is in record { all_read = k.1; total_value = k.0 }
+
+pub returns-in-All : goal.returns-in-All
+unfolding profile_of started_by start_of first_turn
+returns-in-All c = rw (le-ltb _ _ c.if-scene-layout.false, le-ltb _ _ c.if-scene-layout-2.false) (c.rules.ensures ∙ sym (all_read _ (by_all _ _ _ c.read_all.ensures c.in-All.is).1 _))
+
+pub returns-in-Refused : goal.returns-in-Refused
+unfolding profile_of started_by start_of first_turn
+returns-in-Refused c = rw (le-ltb _ _ c.if-scene-layout.false, le-ltb _ _ c.if-scene-layout-2.false) (sym (by_refused _ _ _ _ c.read_all.ensures c.in-Refused.is _))
