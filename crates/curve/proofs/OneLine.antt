@@ -10,7 +10,6 @@ use Rattle.std.specs.Float.Ieee.{up, down, fits, is_nan, to_unsigned, round, of_
 use Rattle.std.specs.Float.Ieee.Bits.{is_true}
 use Rattle.std.specs.Float.Ieee.Fits.{and_l, and_r, add-fits}
 use Rattle.std.specs.Float.Ieee.Positive.{positive, num, den, den_pos, positive-finite, between}
-use Rattle.std.specs.Float.Ieee.Scale.{finite}
 use Rattle.laws.specs.Binary32.{◌⊕◌, ◌⊖◌, ◌⊗◌, ◌⊘◌, dec, whole}
 use Rattle.laws.specs.Compare.{under_zero}
 use Rattle.laws.specs.NotFinite.{unsigned, unsigned_round}

@@ -24,7 +24,7 @@ use Rattle.drawing.specs.declared.line.Pen.{Pen}
 use Rattle.drawing.specs.declared.line.Drawn.{Drawn}
 use Rattle.drawing.specs.declared.line.Drawn.TheVariants.{On, Stopped}
 use Rattle.curve.specs.Fit.{place_of}
-use Rattle.curve.specs.Curve.{line_of, lines_of, range_of, Front, front_of, Trail, onward, tip_of, accepted, walk, is_point, side_events, device_side, euler_events}
+use Rattle.curve.specs.Curve.{line_of, lines_of, range_of, Front, Trail, onward, tip_of, accepted, is_point, side_events, device_side, euler_events}
 use Rattle.curve.specs.Walks.{walks, flatten_append}
 use Rattle.curve.specs.Chain.{Chain, written, fill_chain}
 use Rattle.curve.specs.declared.fit.Fit.{Fit}

@@ -1,8 +1,8 @@
 -- A range that is one line, told without a root. Its count is the ceiling of √|x| * (c * √y), brought into 1 to 100, with c below 1/2: for |x| at most
 -- 2 ^ -12 and y from 0 to 2 ^ 14 the roots are at most 2 ^ -6 and 2 ^ 7, so the product is at most 1, and the count is 1 (`one_line`). Assumes nothing.
-use Rattle.std.specs.Prelude.{◌≡◌, refl, Bool, true, false, not, ◌&&◌, ℕ, zero, suc, ◌*◌, ◌^◌, ◌≤◌, ◌<◌, ℤ, pos, negsuc, T, eqb, Float}
+use Rattle.std.specs.Prelude.{◌≡◌, refl, Bool, true, false, not, ◌&&◌, ℕ, zero, suc, ◌*◌, ◌^◌, ◌<◌, ℤ, pos, negsuc, T, eqb, Float}
 use Rattle.std.proofs.Common.{sym, ◌∙◌, subst, le_trans, le_of_eq, lt_irrefl, mul-one, one-mul, mul-pos, zero-lt-suc, eqb→eq, lit<, lit≤, pow_pos}
-use Rattle.std.specs.Float.{nan, inf, fin, binary32}
+use Rattle.std.specs.Float.{nan, inf, fin}
 use Rattle.std.specs.Float.Ieee.{up, down, round, mul, le}
 use Rattle.std.specs.Float.Ieee.Fits.{up_pos, and_l, and_r}
 use Rattle.laws.specs.Binary32.{◌⊗◌, dec, whole}

@@ -1,6 +1,7 @@
 // A cubic, or the curve at an offset from it, as lines: it is cut into ranges that are each near a spiral, and a range
 // is 1 to 100 lines.
 #![tactic(auto)]
+
 mod fit;
 mod straight;
 

@@ -1,6 +1,7 @@
 // The C interface: each function is one of `maths`, `scene`, `flatten`, `pattern`, `svg`, `sheets`, `profile`, `checker`, `mender`, `hpgl` or `cut`
 // under a name that C and Rust can link. See include/hinthevoun.h.
 #![tactic(auto)]
+
 ghost use Rattle.std.specs.Prelude.{◌≡◌};
 ghost use Rattle.maths.specs.Numbers.{half_of};
 ghost use Rattle.maths.specs.Roots.{sqrt_of, hypot_of, cbrt_of, two_thirds_of};

@@ -1,5 +1,4 @@
 -- `curve::device_side` meets its contract. Assumes nothing.
-use borrow.Author.Rules.{rules}
 use lib.Ieee.{of_bits, round}
 use Rattle.curve.specs.Curve.{device_side}
 use Rattle.curve.proofs.device_side.Goals as goal

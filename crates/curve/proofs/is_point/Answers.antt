@@ -1,5 +1,4 @@
 -- `curve::is_point` meets its contract. Assumes nothing.
-use borrow.Author.Rules.{rules}
 use Rattle.curve.specs.Curve.{is_point}
 use Rattle.curve.proofs.is_point.Goals as goal
 

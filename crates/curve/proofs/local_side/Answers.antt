@@ -1,5 +1,4 @@
 -- `curve::local_side` meets its contract. Assumes nothing.
-use borrow.Author.Rules.{rules}
 use lib.Ieee.{of_bits, round}
 use Rattle.curve.specs.Curve.{local_side}
 use Rattle.curve.proofs.local_side.Goals as goal

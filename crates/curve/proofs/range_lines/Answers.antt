@@ -1,9 +1,7 @@
 -- `curve::range_lines` meets its contract: what is left to draw comes to the same. Assumes nothing.
-use Prim.Native.Nat.{◌-◌}
 use mathlib.Core.Path.{sym, ◌∙◌}
 use native.Mathlib.Omega.{arith}
-use Rattle.drawing.specs.PageLaws.{Left, begin, turn, done, halts, as_many}
-use Rattle.curve.specs.Curve.{lines_of}
+use Rattle.drawing.specs.PageLaws.{begin, turn, done, halts, as_many}
 use Rattle.curve.proofs.Lines.{lines_turn, lines_last}
 use Rattle.curve.proofs.range_lines.Goals as goal
 

@@ -1,15 +1,12 @@
 -- `curve::walk_side` meets its contract: the loop stands at a place of the tree, and what is left there comes to the same.
 -- The measure is at most 131,071 at the start and falls at every turn, so there are at most as many turns. Assumes nothing.
 use mathlib.Core.Path.{sym, ◌∙◌}
-use mathlib.Core.List.{List, flatten}
 use Prim.Native.Nat.{ℕ, ◌≤◌, ◌<◌}
 use native.Mathlib.Nat.{le_of_eq}
 use native.Mathlib.Omega.{arith}
 use lib.Ieee.{of_bits, round}
-use Rattle.drawing.specs.Sheet.{Event}
-use Rattle.drawing.specs.PageLaws.{Left, begin, nothing, turn, done, halts, as_many}
-use Rattle.curve.specs.Curve.{front_of, walk}
-use Rattle.curve.proofs.Walk.{Here, here_start, left, left_start, small, at_end, below, few_zeros, next, next_less, taken, half, half_less}
+use Rattle.drawing.specs.PageLaws.{begin, nothing, turn, done, halts, as_many}
+use Rattle.curve.proofs.Walk.{here_start, left_start, small, at_end, below, few_zeros, next, next_less, taken, half, half_less}
 use Rattle.curve.proofs.walk_side.Goals as goal
 
 fewer : {a b n : ℕ} → a < b → b ≤ n → a ≤ n

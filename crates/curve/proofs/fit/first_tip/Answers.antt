@@ -1,5 +1,4 @@
 -- `curve::fit::first_tip` meets its contract. Assumes nothing.
-use borrow.Author.Rules.{rules}
 use lib.Ieee.{of_bits, round}
 use Rattle.curve.specs.Fit.{first_tip}
 use Rattle.curve.proofs.fit.first_tip.Goals as goal

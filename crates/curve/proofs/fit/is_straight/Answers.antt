@@ -1,5 +1,4 @@
 -- `curve::fit::is_straight` meets its contract. Assumes nothing.
-use borrow.Author.Rules.{rules}
 use lib.Ieee.{of_bits, round}
 use Rattle.curve.specs.Straight.{is_straight}
 use Rattle.curve.proofs.fit.is_straight.Goals as goal

@@ -1,5 +1,4 @@
 -- `curve::fit::n_frac` meets its contract. Assumes nothing.
-use borrow.Author.Rules.{rules}
 use lib.Ieee.{of_bits, round}
 use Rattle.curve.specs.Fit.{n_frac_of}
 use Rattle.curve.proofs.fit.n_frac.Goals as goal

@@ -1,5 +1,4 @@
 -- `curve::fit::spread` meets its contract. Assumes nothing.
-use borrow.Author.Rules.{rules}
 use Rattle.curve.specs.Fit.{spread_of}
 use Rattle.curve.proofs.fit.spread.Goals as goal
 
