@@ -1,2 +1,2 @@
-// Laws of binary32 that several crates cite: see specs/ and proofs/. There is no code here.
+// Laws of binary32 that several crates cite: see specs/. There is no code here.
 #![tactic(auto)]

@@ -1,5 +1,5 @@
 -- The tags and the data of subpaths, tag by tag: each tag has its byte, its points, and the transform and the style of the first. Assumes nothing.
-use Prim.Native.Nat.{ℕ, zero, suc, ◌+◌, ◌-◌, ◌^◌, ◌<◌}
+use Prim.Native.Nat.{ℕ, zero, suc, ◌+◌, ◌^◌, ◌<◌}
 use Rattle.std.proofs.Math.Path.{◌≡◌, refl, ap, subst}
 use Rattle.std.proofs.Common.{sym, ◌∙◌, length-append, take_at, drop_at, drop-drop, take-append-drop}
 use Rattle.std.specs.Prelude.{Bool, take, drop}

@@ -1,6 +1,6 @@
 -- A sum over the first n numbers is the sum over a list that has each of them once, but for those that add nothing. Assumes nothing.
 use Prim.Native.Nat.{ℕ, zero, suc, ◌+◌, ◌*◌, ◌≤◌, ◌<◌}
-use Rattle.std.specs.Prelude.{◌≡◌, ◌⊎◌, Bool, true, false, eqb}
+use Rattle.std.specs.Prelude.{◌≡◌, ◌⊎◌, eqb}
 use Rattle.std.proofs.Math.Path.{refl, ap}
 use Rattle.std.proofs.Common.{sym, ◌∙◌, subst, inl, inr, arith, eq-eqb, ne_eqb}
 use mathlib.Core.List.{List, [], ◌∷◌}

@@ -2,7 +2,7 @@
 use Prim.Native.Nat.{ℕ, zero, suc, ◌+◌, ◌*◌, ◌%◌, ◌<◌, ◌≤◌}
 use mathlib.Core.Path.{◌≡◌, refl, sym, ap, ◌∙◌}
 use mathlib.Core.Bool.{Bool, true, false, ◌&&◌, cond}
-use mathlib.Core.List.{List, [], ◌∷◌}
+use mathlib.Core.List.{List}
 use native.Mathlib.Omega.{arith}
 use native.Mathlib.Nat.{mod-lt}
 use lib.Dec.{eqb, lit<}
@@ -10,9 +10,8 @@ use lib.ListN.{length, get_or, drop, drop_of_length-le}
 use lib.Seq.{drop-cons}
 use borrow.Author.Tests.{eq-eqb, ne_eqb}
 use Rattle.spiral.specs.declared.util.Vec2.{Vec2}
-use Rattle.scene.specs.Reading.{wide, point_words, point_at, line_cubic, quad_cubic, origin, raised, cubic_of, reaches, segment_of}
+use Rattle.scene.specs.Reading.{wide, point_words, point_at, line_cubic, quad_cubic, raised, cubic_of, reaches, segment_of}
 use Rattle.scene.specs.declared.reading.SegmentRead.{SegmentRead}
-use Rattle.drawing.specs.Cubic.{point}
 use Rattle.flatten.specs.declared.call.Layout.{Layout}
 use Rattle.flatten.specs.declared.tag.Head.{Head}
 use Rattle.profile.specs.Rules.{same_words, six_at, transform_from, point_of}

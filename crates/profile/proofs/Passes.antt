@@ -1,30 +1,24 @@
 -- What the proofs about the two passes cite. Assumes nothing.
-use Prim.Native.Nat.{ℕ, zero, suc, ◌+◌, ◌*◌, ◌%◌, ◌^◌, ◌<◌, ◌≤◌}
+use Prim.Native.Nat.{ℕ, zero, suc, ◌+◌, ◌^◌, ◌<◌, ◌≤◌}
 use mathlib.Core.Path.{◌≡◌, refl, sym, ap, ◌∙◌, subst}
-use mathlib.Core.Bool.{Bool, true, false, not, ◌&&◌, ◌||◌, cond}
-use mathlib.Core.List.{List, [], ◌∷◌}
+use mathlib.Core.Bool.{Bool, true, false, not, cond}
 use native.Mathlib.Omega.{arith}
 use native.Mathlib.Decide.{ℕ_discrete}
 use lib.Dec.{eqb}
 use borrow.Author.Tests.{not-true}
-use lib.ListN.{length}
 use Rattle.records.specs.Record.{once}
-use Rattle.refusals.specs.Refusals.{Read, found, refused}
+use Rattle.refusals.specs.Refusals.{found, refused}
 use Rattle.refusals.specs.declared.Refusal.{Refusal}
-use Rattle.scene.specs.Reading.{wide}
-use Rattle.flatten.specs.Tag.{is_path, is_stroke}
 use Rattle.flatten.specs.declared.tag.Head.{Head}
 use Rattle.profile.specs.Reads.{Given, tags, read_head, read_at}
-use Rattle.profile.specs.Rules.{head_of, has_segment, has_end, is_even_odd, ends, six_at, six_words, transform_from, point_of, first_of, last_of, segments, subpaths, open_at, beginning, leading, facts_at, rule_of, rule_at, unless, broken70, broken71, broken72, broken73, broken74, broken75}
+use Rattle.profile.specs.Rules.{head_of, has_segment, has_end, ends, six_words, first_of, segments, subpaths, open_at, beginning, leading, facts_at, rule_of, rule_at, broken70, broken71, broken72, broken73, broken74, broken75}
 use Rattle.profile.specs.Verdict.{first, unread_or, unread_at, against_or, against_at, rules_of}
-use Rattle.profile.specs.Trail.{Small, InReach, piece_of, entered_of, behind_of, plain_facts, segment_facts, stepped, segment_step, step_by, step_of, no_trail}
+use Rattle.profile.specs.Trail.{Small, InReach, piece_of, entered_of, behind_of, plain_facts, segment_facts, segment_step, step_by, step_of, no_trail}
 use Rattle.profile.specs.Walk.{AllRead, ReadBy, TrailAt}
 use Rattle.profile.specs.Parts.{read_head_is, head_read_lem, in_reach}
 use Rattle.profile.specs.Passed.{AllFine, one_tells, read_silent, fine_silent, all_fine}
 use Rattle.profile.specs.declared.rules.Rule.{Rule}
-use Rattle.profile.specs.declared.rules.Fault.{Fault}
 use Rattle.profile.specs.declared.rules.Fault.TheVariants.{Fine, Breaks}
-use Rattle.profile.specs.declared.rules.Facts.{Facts}
 use Rattle.profile.specs.declared.sheet.Verdict.{Verdict}
 use Rattle.profile.specs.declared.sheet.Verdict.TheVariants.{Passed, Unread, Against}
 use Rattle.profile.specs.declared.sheet.Reads.{Reads}

@@ -1,8 +1,8 @@
 -- What a tag that was read says: its head was, and of a segment its transform and its points. Assumes nothing.
-use Rattle.std.specs.Prelude.{ℕ, ◌+◌, ◌*◌, ◌%◌, ◌^◌, ◌≤◌, ◌≡◌, refl, Bool, true, false, not, ◌&&◌, cond, List, eqb, ltb, leb, length, replicate, Float}
+use Rattle.std.specs.Prelude.{ℕ, ◌+◌, ◌*◌, ◌%◌, ◌^◌, ◌≤◌, ◌≡◌, refl, Bool, true, false, ◌&&◌, cond, List, ltb, leb, length, replicate}
 use Rattle.std.proofs.Common.{sym, ap, ◌∙◌, arith, leb-true}
 use Rattle.laws.specs.Binary32.{whole}
-use Rattle.refusals.specs.Refusals.{Read, found, refused}
+use Rattle.refusals.specs.Refusals.{found}
 use Rattle.spiral.specs.declared.util.Vec2.{Vec2}
 use Rattle.scene.specs.Reading.{wide, reaches, segment_of, transform_of, floats_at}
 use Rattle.scene.specs.declared.reading.SegmentRead.{SegmentRead}
@@ -11,7 +11,7 @@ use Rattle.flatten.specs.Tag.{◌>>=◌, inside, is_stroke, points_at, shape_at}
 use Rattle.flatten.specs.Found.{Came, came}
 use Rattle.flatten.specs.declared.tag.Head.{Head}
 use Rattle.profile.specs.Reads.{Given, read_head, no_segment, read_transform, rest_by, read_at}
-use Rattle.profile.specs.Rules.{head_or, head_of, has_segment, transform_from}
+use Rattle.profile.specs.Rules.{head_or, head_of}
 use Rattle.profile.specs.Trail.{InReach}
 
 -- what is found behind the head is the head

@@ -1,6 +1,6 @@
 -- A scene passes where its bases lie inside, all tags are read and none breaks a rule; and nowhere else. Assumes nothing.
-use Rattle.std.specs.Prelude.{ℕ, zero, suc, ◌+◌, ◌<◌, ◌≤◌, ◌≡◌, refl, Bool, true, false, not, ◌&&◌, ◌||◌, cond, length}
-use Rattle.std.proofs.Common.{sym, ap, ◌∙◌, subst, arith}
+use Rattle.std.specs.Prelude.{ℕ, zero, suc, ◌+◌, ◌<◌, ◌≤◌, ◌≡◌, refl, Bool, true, false, length}
+use Rattle.std.proofs.Common.{ap, ◌∙◌, subst, arith}
 use Rattle.std.proofs.Math.Decide.{ℕ_discrete}
 use Rattle.refusals.specs.Refusals.{Read, found, refused}
 use Rattle.flatten.specs.Call.{start_of}
@@ -8,7 +8,7 @@ use Rattle.flatten.specs.declared.call.Stop.{Stop}
 use Rattle.flatten.specs.declared.call.Stop.TheVariants as stop
 use Rattle.flatten.specs.declared.tag.Head.{Head}
 use Rattle.profile.specs.Reads.{Given, tags, read_at}
-use Rattle.profile.specs.Rules.{head_of, segments, subpaths, facts_at, broken70, broken71, broken72, broken73, broken74, broken75, unless, rule_of, rule_at}
+use Rattle.profile.specs.Rules.{head_of, segments, subpaths, broken70, broken71, broken72, broken73, broken74, broken75, unless, rule_of, rule_at}
 use Rattle.profile.specs.Verdict.{first, unread_or, unread_at, against_or, against_at, rules_of, started_by, profile_of}
 use Rattle.profile.specs.Walk.{AllRead}
 use Rattle.profile.specs.Parts.{read_head_is}
@@ -17,7 +17,7 @@ use Rattle.profile.specs.declared.rules.Fault.{Fault}
 use Rattle.profile.specs.declared.rules.Fault.TheVariants.{Fine, Breaks}
 use Rattle.profile.specs.declared.rules.Facts.{Facts}
 use Rattle.profile.specs.declared.sheet.Verdict.{Verdict}
-use Rattle.profile.specs.declared.sheet.Verdict.TheVariants.{Passed, Unread, Against}
+use Rattle.profile.specs.declared.sheet.Verdict.TheVariants.{Passed}
 
 -- the first n tags break no rule
 abbrev pub AllFine : Given → ℕ → Type 0

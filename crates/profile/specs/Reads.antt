@@ -1,6 +1,6 @@
 -- What is read of each tag, by flattening's own reads: no box is missing, and nothing is drawn. Definitions only.
 use Rattle.std.specs.Prelude.{ℕ, ◌*◌, ◌%◌, ◌^◌, Bool, true, false, List, eqb, Float}
-use Rattle.refusals.specs.Refusals.{Read, found, refused}
+use Rattle.refusals.specs.Refusals.{Read, found}
 use Rattle.scene.specs.Reading.{transform_of}
 use Rattle.flatten.specs.Tag.{◌>>=◌, inside, head_at, is_stroke, points_at, shape_at}
 use Rattle.flatten.specs.declared.call.Layout.{Layout}

@@ -1,8 +1,6 @@
 -- What the code knows behind some tags, and what one tag does to it. Definitions only.
-use Rattle.std.specs.Prelude.{ℕ, suc, ◌+◌, ◌%◌, ◌^◌, ◌<◌, ◌≤◌, ◌≡◌, Bool, true, false, cond, List, [], eqb, leb, length, replicate}
-use Rattle.records.specs.Record.{once}
+use Rattle.std.specs.Prelude.{ℕ, ◌+◌, ◌%◌, ◌^◌, ◌<◌, ◌≤◌, ◌≡◌, Bool, true, false, cond, List, eqb, leb, length, replicate}
 use Rattle.spiral.specs.Util.{eq_of}
-use Rattle.spiral.specs.declared.util.Vec2.{Vec2}
 use Rattle.scene.specs.Reading.{wide, origin, segment_of}
 use Rattle.flatten.specs.Tag.{is_path, is_stroke}
 use Rattle.flatten.specs.declared.call.Layout.{Layout}

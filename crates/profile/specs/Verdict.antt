@@ -1,5 +1,5 @@
 -- The test of a scene: the first read that fails, or else the first rule that is broken in the first tag that breaks one. Definitions only.
-use Rattle.std.specs.Prelude.{ℕ, zero, suc, List, [], ◌∷◌, length}
+use Rattle.std.specs.Prelude.{ℕ, zero, suc, length}
 use Rattle.refusals.specs.Refusals.{Read, found, refused}
 use Rattle.refusals.specs.Refusals as refusals
 use Rattle.flatten.specs.Call.{start_of}

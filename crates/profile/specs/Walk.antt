@@ -1,5 +1,5 @@
 -- What the two passes over the tags know: that all reads were found, and the trail behind some tags. Definitions only.
-use Rattle.std.specs.Prelude.{ℕ, ◌<◌, ◌≡◌, true, List, eqb}
+use Rattle.std.specs.Prelude.{ℕ, ◌<◌, ◌≡◌, true, eqb}
 use Rattle.refusals.specs.Refusals.{found}
 use Rattle.profile.specs.Reads.{Given, tags, read_at}
 use Rattle.profile.specs.Rules.{head_of, six_words, first_of, segments, subpaths, open_at, beginning, leading}

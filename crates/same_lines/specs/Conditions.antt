@@ -1,5 +1,5 @@
 -- When a call flattens a sheet that was moved to f32 points: what the two calls have to do with each other, and the conditions on the old one. Definitions only.
-use Rattle.std.specs.Prelude.{ℕ, zero, suc, ◌+◌, ◌*◌, ◌/◌, ◌%◌, ◌^◌, ◌<◌, ◌≤◌, ◌≡◌, true, false, List, [], ◌∷◌, ◌++◌, eqb, length, get_or, drop, take}
+use Rattle.std.specs.Prelude.{ℕ, zero, suc, ◌+◌, ◌*◌, ◌/◌, ◌^◌, ◌<◌, ◌≤◌, ◌≡◌, true, false, List, [], ◌∷◌, ◌++◌, eqb, length, get_or, drop, take}
 use Rattle.scene.specs.Tags.{bit, sums_before}
 use Rattle.scene.specs.Fresh.{byte_of as byteIn, Fresh}
 use Rattle.scene.specs.Reading.{point_count, transform_of, flags_of, width_of}

@@ -1,12 +1,11 @@
 -- Tag by tag: a moved call's tag is the old one's, with the sums before it but for the data, which is doubled. Assumes nothing.
-use Rattle.std.specs.Prelude.{ℕ, zero, suc, ◌+◌, ◌-◌, ◌*◌, ◌/◌, ◌%◌, ◌^◌, ◌<◌, ◌≤◌, ◌≡◌, refl, Bool, List, eqb, length, get_or, drop}
-use Rattle.std.proofs.Common.{sym, ap, ◌∙◌, subst, arith}
+use Rattle.std.specs.Prelude.{ℕ, ◌+◌, ◌*◌, ◌/◌, ◌%◌, ◌^◌, ◌<◌, ◌≤◌, ◌≡◌, Bool, eqb, get_or}
+use Rattle.std.proofs.Common.{sym, subst, arith}
 use Rattle.std.proofs.Math.Bool.{true, false}
-use Rattle.scene.specs.Tags.{plus, byte_at, tag_data, sums_below, sums_before}
+use Rattle.scene.specs.Tags.{byte_at, tag_data, sums_below, sums_before}
 use Rattle.scene.specs.declared.tags.PathMonoid.{PathMonoid}
 use Rattle.scene.specs.declared.tags.PathTagData.{PathTagData}
 use Rattle.watertight.specs.Fill.{Call, tags}
-use Rattle.sheets.specs.Moving.{new_tag}
 use Rattle.same_lines.specs.Conditions.{words_of, byte_of, counted, Few, TagsMoved}
 use Rattle.sheets.specs.Turned.{MovedByte, moved_byte}
 use Rattle.same_lines.specs.Sums.{Doubled, moved_below, moved_before, moved_at}

@@ -1,5 +1,5 @@
 -- The points of a moved segment are those of the old one. Assumes nothing.
-use Rattle.std.specs.Prelude.{ℕ, zero, suc, ◌+◌, ◌-◌, ◌*◌, ◌/◌, ◌%◌, ◌^◌, ◌<◌, ◌≤◌, max, ◌≡◌, Bool, ◌&&◌, cond, T, ltb, leb, pos, get_or, Float}
+use Rattle.std.specs.Prelude.{ℕ, zero, suc, ◌+◌, ◌-◌, ◌*◌, ◌/◌, ◌%◌, ◌^◌, ◌<◌, ◌≤◌, ◌≡◌, Bool, cond, get_or}
 use Rattle.std.proofs.Math.Path.{refl, ap}
 use Rattle.std.proofs.Common.{sym, ◌∙◌}
 use Rattle.std.proofs.Math.Bool.{true, false}
@@ -7,15 +7,10 @@ use mathlib.Core.List.{List, [], ◌∷◌}
 use native.Mathlib.Omega.{arith}
 use Rattle.std.proofs.Math.Dec.{eqb}
 use Rattle.std.proofs.Math.ListN.{length}
-use Rattle.std.specs.Float.{binary32}
-use Rattle.std.specs.Float.Ieee.{of_bits, to_bits, of_int, neg, fits}
-use Rattle.std.specs.Float.Ieee.Fits.{cond-fits, of_int-fits, neg-fits}
-use Rattle.std.specs.Float.Ieee.Bits.{of_bits-to_bits}
+use Rattle.std.specs.Float.Ieee.{fits}
 use borrow.Author.Tests.{lt-ltb, le-leb}
-use Rattle.spiral.specs.Util.{new_of}
 use Rattle.spiral.specs.declared.util.Vec2.{Vec2}
-use Rattle.scene.specs.Tags.{bit}
-use Rattle.scene.specs.Reading.{i16_of, i16_point, f32_point, point_words, point_at, point_count, raised, line_cubic, quad_cubic, cubic_of, reaches, segment_of, wide, marker, origin}
+use Rattle.scene.specs.Reading.{i16_point, f32_point, point_words, point_at, point_count, raised, line_cubic, quad_cubic, cubic_of, reaches, segment_of, wide, marker, origin}
 use Rattle.scene.specs.Points.{i16_exact}
 use Rattle.scene.specs.declared.reading.SegmentRead.{SegmentRead}
 use Rattle.refusals.specs.Refusals.{found}

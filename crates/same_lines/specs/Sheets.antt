@@ -1,16 +1,15 @@
 -- What `to_f32` writes is what the theorem on flattening asks for. Assumes nothing.
-use Prim.Native.Nat.{ℕ, zero, suc, ◌+◌, ◌-◌, ◌*◌, ◌/◌, ◌%◌, ◌^◌, ◌<◌, ◌≤◌}
-use Rattle.std.specs.Prelude.{◌≡◌, refl, Bool, true, false, ◌||◌, cond, List, [], ◌∷◌, ◌++◌, map, eqb, length, drop, take}
+use Prim.Native.Nat.{ℕ, zero, suc, ◌+◌, ◌*◌, ◌/◌, ◌%◌, ◌<◌, ◌≤◌}
+use Rattle.std.specs.Prelude.{◌≡◌, refl, Bool, true, false, ◌||◌, List, [], ◌∷◌, ◌++◌, map, eqb, length, drop, take}
 use Rattle.std.proofs.Common.{sym, ◌∙◌, length-append, get_or-drop, get_or-take, length-take-le, eqb-true}
 use Rattle.std.proofs.Math.Path.{ap}
 use native.Mathlib.Omega.{arith}
 use Rattle.std.proofs.Math.Decide.{ℕ_discrete}
 use Rattle.std.proofs.Math.ListN.{get_or, get_or-append, get_or-map}
-use Rattle.std.proofs.lemmas.List.{length-map, get_or_at}
-use Rattle.std.proofs.Math.Seq.{get_or-append_seam}
-use Rattle.scene.specs.Tags.{bit, tag_sums, plus, byte_at, sums_below, word_sums, sums_before}
+use Rattle.std.proofs.lemmas.List.{get_or_at}
+use Rattle.scene.specs.Tags.{tag_sums, plus, byte_at, sums_below, word_sums, sums_before}
 use Rattle.watertight.specs.Fill.{Call, outcome, Accepted, tags}
-use Rattle.sheets.specs.Moving.{counts, is_old, new_tag, total, all, x_word, y_word, new_points, to_f32}
+use Rattle.sheets.specs.Moving.{counts, is_old, new_tag, total, x_word, y_word, new_points}
 use Rattle.same_lines.specs.Conditions.{words_of, byte_of, bytes_to, counted, Scanned, Roomy, Few, ReadsCounted, Followed, SameLent, TagsMoved, PointsMoved, SameStyles, SameTransforms, SheetMoved}
 use Rattle.same_lines.specs.Pairs.{byte_at_lem}
 use Rattle.sheets.specs.Back as back

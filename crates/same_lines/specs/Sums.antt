@@ -1,6 +1,6 @@
 -- The sums of a moved sheet's tags are those of the old one, but for the data, which is doubled. Assumes nothing.
 use Rattle.std.specs.Prelude.{ℕ, zero, suc, ◌+◌, ◌*◌, ◌/◌, ◌%◌, ◌^◌, ◌<◌, ◌≤◌, ◌≡◌, refl, Bool, true, false, List, eqb, get_or}
-use Rattle.std.proofs.Common.{sym, ap, ◌∙◌, arith, eqb-true}
+use Rattle.std.proofs.Common.{ap, arith, eqb-true}
 use Rattle.scene.specs.Tags.{sums, tag_sums, plus, byte_at, sums_below, word_sums, sums_before}
 use Rattle.scene.specs.declared.tags.PathMonoid.{PathMonoid}
 use Rattle.sheets.specs.Moving.{counts}

@@ -11,7 +11,7 @@ use Rattle.std.proofs.Math.Decide.{ℕ_discrete}
 use Rattle.std.proofs.Math.Dec.{ltb}
 use Rattle.std.proofs.Math.ListN.{length, length-append, length-set}
 use Rattle.std.specs.Float.Ieee.Bits.{is_true}
-use Rattle.refusals.specs.Refusals.{number_of, found}
+use Rattle.refusals.specs.Refusals.{found}
 use Rattle.refusals.specs.Laws.{number_some}
 use Rattle.refusals.specs.declared.Refusal.TheVariants.{BadBase}
 use Rattle.drawing.specs.Sheet.{Event, line, no_count, no_join}

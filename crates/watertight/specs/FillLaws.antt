@@ -1,9 +1,9 @@
 -- What a filled segment draws is one chain, from its first point to its last. Assumes nothing.
-use Rattle.std.specs.Prelude.{ℕ, zero, suc, ◌+◌, ◌*◌, ◌%◌, ◌^◌, ◌<◌, ◌≤◌, ◌≡◌, refl, Bool, true, eqb, get_or, take, drop, Float}
+use Rattle.std.specs.Prelude.{ℕ, zero, suc, ◌+◌, ◌*◌, ◌%◌, ◌<◌, ◌≤◌, ◌≡◌, refl, true, eqb, get_or, take, drop, Float}
 use Rattle.std.proofs.Common.{ap, ◌∙◌, arith, mod-lt, lit<, get_or-take, get_or-drop}
 use Rattle.std.proofs.Math.Path.{subst}
 use Rattle.std.proofs.Math.Bool.{false}
-use mathlib.Core.List.{List, [], ◌∷◌}
+use mathlib.Core.List.{List}
 use Rattle.std.proofs.Math.ListN.{length}
 use Rattle.std.specs.Float.Ieee.{round, eq}
 use Rattle.laws.specs.Binary32.{whole}

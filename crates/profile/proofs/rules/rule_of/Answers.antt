@@ -1,7 +1,6 @@
 -- `profile::rules::rule_of` meets its contract. Assumes nothing.
 use Rattle.profile.specs.Rules.{unless, rule_of}
 use Rattle.profile.proofs.Laws.{told}
-use borrow.Author.Rules.{rules}
 use Rattle.profile.proofs.rules.rule_of.Goals as goal
 
 pub returns-then-breaks_stroke : goal.returns-then-breaks_stroke

@@ -1,7 +1,6 @@
 -- `profile::sheet::counted` meets its contract. Assumes nothing.
 use Rattle.records.specs.Record.{once}
 use Rattle.profile.proofs.Laws.{told}
-use borrow.Author.Rules.{rules}
 use native.Mathlib.Omega.{arith}
 use Rattle.profile.proofs.sheet.counted.Goals as goal
 

@@ -1,7 +1,6 @@
 -- `profile::sheet::no_trail` meets its contract. Assumes nothing.
 use lib.Ieee.{of_bits, round}
 use Rattle.profile.specs.Trail.{no_trail}
-use borrow.Author.Rules.{rules}
 use Rattle.profile.proofs.sheet.no_trail.Goals as goal
 
 pub returns : goal.returns

@@ -1,6 +1,5 @@
 -- `profile::sheet::number_of` meets its contract. Assumes nothing.
 use Rattle.profile.specs.Verdict.{number_of}
-use borrow.Author.Rules.{rules}
 use Rattle.profile.proofs.sheet.number_of.Goals as goal
 
 pub returns-in-Stroke : goal.returns-in-Stroke

@@ -2,7 +2,6 @@
 use borrow.Author.Tests.{eq-eqb, ne_eqb}
 use Rattle.flatten.specs.Tag.{◌>>=◌}
 use Rattle.profile.specs.Reads.{rest_by}
-use borrow.Author.Rules.{rules}
 use Rattle.profile.proofs.sheet.read_rest.Goals as goal
 
 pub returns-then-tag-eq0 : goal.returns-then-tag-eq0

@@ -1,8 +1,6 @@
 -- `profile::sheet::read_tag` meets its contract. Assumes nothing.
-use mathlib.Core.Path.{◌∙◌, sym}
 use Rattle.flatten.specs.Tag.{◌>>=◌}
 use Rattle.profile.specs.Reads.{read_at}
-use borrow.Author.Rules.{rules}
 use Rattle.profile.proofs.sheet.read_tag.Goals as goal
 
 pub returns-in-Found : goal.returns-in-Found

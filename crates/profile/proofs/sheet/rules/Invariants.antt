@@ -1,13 +1,8 @@
 -- `profile::sheet::rules` meets its contract: the tags before the one reached break no rule, and the trail is theirs. Assumes nothing.
 use Prim.Native.Nat.{◌≤◌, ◌-◌}
-use mathlib.Core.Path.{◌≡◌, sym, ◌∙◌, subst}
-use native.Mathlib.Numerals.{add-one}
-use native.Mathlib.Omega.{arith}
 use Rattle.profile.specs.Reads.{given}
 use Rattle.profile.specs.Walk.{TrailAt}
 use Rattle.profile.specs.Passed.{AllFine}
-use Rattle.profile.proofs.Passes.{none_fine, one_fine, stops_against, no_trail_at, trail_small, step_rule, step_trail, at_end}
-use borrow.Author.Rules.{rules}
 use Rattle.profile.proofs.sheet.rules.Given as goal
 
 abbrev pub invariant-loop-i : goal.invariant-loop-i

@@ -2,7 +2,6 @@
 use mathlib.Core.Path.{sym, ap, ◌∙◌}
 use Rattle.flatten.specs.Tag.{head_read}
 use Rattle.profile.proofs.Passes.{reads_again, reads_still, segment_reached}
-use borrow.Author.Rules.{rules}
 use Rattle.profile.proofs.sheet.step_at.Goals as goal
 
 pub take_step-requires : goal.take_step-requires

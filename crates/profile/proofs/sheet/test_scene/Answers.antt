@@ -5,7 +5,6 @@ use Rattle.flatten.specs.Call.{first_turn, start_of}
 use Rattle.profile.specs.Verdict.{started_by, profile_of}
 use Rattle.profile.specs.Passed.{all_read}
 use Rattle.profile.proofs.Passes.{by_all, by_refused}
-use borrow.Author.Rules.{rules}
 use Rattle.profile.proofs.sheet.test_scene.Goals as goal
 
 pub returns-then-scene-layout : goal.returns-then-scene-layout

@@ -1,6 +1,5 @@
 -- `profile::trail::entered` meets its contract. Assumes nothing.
 use Rattle.profile.specs.Trail.{entered_of}
-use borrow.Author.Rules.{rules}
 use Rattle.profile.proofs.trail.entered.Goals as goal
 
 pub returns : goal.returns

@@ -2,7 +2,6 @@
 use mathlib.Core.Path.{◌∙◌}
 use Rattle.profile.specs.Rules.{aligned_to}
 use Rattle.profile.proofs.Laws.{told}
-use borrow.Author.Rules.{rules}
 use Rattle.profile.proofs.trail.is_aligned.Goals as goal
 
 pub returns-then-same_words : goal.returns-then-same_words

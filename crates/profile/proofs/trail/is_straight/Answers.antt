@@ -1,8 +1,7 @@
 -- `profile::trail::is_straight` meets its contract. Assumes nothing.
-use mathlib.Core.Path.{sym, ◌∙◌}
+use mathlib.Core.Path.{◌∙◌}
 use Rattle.profile.specs.Rules.{straight}
 use Rattle.profile.proofs.Laws.{told}
-use borrow.Author.Rules.{rules}
 use Rattle.profile.proofs.trail.is_straight.Goals as goal
 
 pub returns-then-is_zero : goal.returns-then-is_zero

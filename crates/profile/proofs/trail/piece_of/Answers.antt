@@ -1,6 +1,5 @@
 -- `profile::trail::piece_of` meets its contract. Assumes nothing.
 use Rattle.profile.proofs.Laws.{piece_is}
-use borrow.Author.Rules.{rules}
 use Rattle.profile.proofs.trail.piece_of.Goals as goal
 
 pub six_words-words-requires : goal.six_words-words-requires

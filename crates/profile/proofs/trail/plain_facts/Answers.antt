@@ -1,6 +1,5 @@
 -- `profile::trail::plain_facts` meets its contract. Assumes nothing.
 use Rattle.profile.specs.Trail.{plain_facts}
-use borrow.Author.Rules.{rules}
 use Rattle.profile.proofs.trail.plain_facts.Goals as goal
 
 pub returns : goal.returns

@@ -1,11 +1,8 @@
 -- `profile::trail::same_words` meets its contract: the words before the place reached are the same, so that the rest decides. Assumes nothing.
 use Prim.Native.Nat.{◌≤◌, ◌-◌}
-use mathlib.Core.Path.{◌≡◌, refl, sym, ◌∙◌}
-use native.Mathlib.Numerals.{add-one}
-use native.Mathlib.Omega.{arith}
+use mathlib.Core.Path.{◌≡◌}
 use lib.ListN.{drop}
 use Rattle.profile.specs.Rules.{same_words}
-use Rattle.profile.proofs.Laws.{words_same, words_differ, words_over}
 use Rattle.profile.proofs.trail.same_words.Given as goal
 
 abbrev pub invariant-loop-k : goal.invariant-loop-k

@@ -1,7 +1,5 @@
 -- `profile::trail::segment_facts` meets its contract. Assumes nothing.
-use native.Mathlib.Omega.{arith}
 use Rattle.profile.specs.Trail.{segment_facts}
-use borrow.Author.Rules.{rules}
 use Rattle.profile.proofs.trail.segment_facts.Goals as goal
 
 pub returns : goal.returns

@@ -1,6 +1,5 @@
 -- `profile::trail::segment_step` meets its contract. Assumes nothing.
 use Rattle.profile.specs.Trail.{segment_step}
-use borrow.Author.Rules.{rules}
 use Rattle.profile.proofs.trail.segment_step.Goals as goal
 
 pub returns : goal.returns

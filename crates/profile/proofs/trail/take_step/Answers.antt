@@ -1,8 +1,7 @@
 -- `profile::trail::take_step` meets its contract. Assumes nothing.
-use mathlib.Core.Path.{◌≡◌, sym, ◌∙◌}
+use mathlib.Core.Path.{◌∙◌}
 use Rattle.profile.specs.Trail.{step_by}
 use Rattle.profile.proofs.Laws.{told, entered_small}
-use borrow.Author.Rules.{rules}
 use Rattle.profile.proofs.trail.take_step.Goals as goal
 
 pub piece_of-piece-requires : goal.piece_of-piece-requires

@@ -1,7 +1,6 @@
 -- `profile::sheet::Verdict::told` meets its contract. Assumes nothing.
 use mathlib.Core.Path.{◌∙◌}
 use Rattle.profile.specs.Verdict.{told_of}
-use borrow.Author.Rules.{rules}
 use Rattle.profile.proofs.sheet.Verdict.told.Goals as goal
 
 pub returns-in-Passed : goal.returns-in-Passed
