@@ -1,5 +1,6 @@
 // The whole way: from the text of a pattern to the knife table's file, in lent buffers.
 #![tactic(auto)]
+
 ghost use Rattle.std.specs.Prelude.{◌≡◌};
 ghost use Rattle.cut.specs.Stages.{stage_of, report_of};
 

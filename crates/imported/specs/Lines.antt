@@ -1,21 +1,19 @@
 -- From a text to lines: an accepted call on what was imported is watertight for every subpath that the text means. Assumes nothing.
-use Rattle.std.specs.Prelude.{ℕ, ◌+◌, ◌≤◌, ◌≡◌, Bool, true, false, eqb}
+use Rattle.std.specs.Prelude.{ℕ, ◌+◌, ◌≤◌, ◌≡◌, false}
 use Rattle.std.proofs.Math.Path.{refl, sym, ap, subst}
-use Rattle.std.proofs.Common.{◌∙◌, arith}
+use Rattle.std.proofs.Common.{◌∙◌}
 use mathlib.Core.List.{List, [], ◌∷◌, ◌++◌}
 use Rattle.std.proofs.lemmas.Bool.{eqb-false}
 use Rattle.pattern.specs.Commands.{Command, end, Ink, none, end_bit, behind, place_of, Outcome, outcome, number_of, written}
-use Rattle.pattern.specs.Meaning.{Subpath, nothing, meant, fresh_pen, fresh, next, after, accepted}
+use Rattle.pattern.specs.Meaning.{Subpath, nothing, meant, fresh_pen, fresh, next, after}
 use Rattle.pattern.specs.Encoded.{by_answer}
 use Rattle.pattern.specs.Every.{Every}
 use Rattle.pattern.specs.declared.pen.Place.{Place}
 use Rattle.pattern.specs.declared.pen.Pen.{Pen}
-use Rattle.pattern.specs.declared.pen.Open.TheVariants.{Nothing}
 use Rattle.pattern.specs.declared.pen.Answer.TheVariants.{Accepted as Drawn}
-use Rattle.svg.specs.Language.{Means}
 use Rattle.svg.specs.Language.{Command as Svg}
-use Rattle.svg.specs.Meaning.{origin, drawn_from, meaning, all_of}
-use Rattle.svg.specs.Import.{Told, stop, import_of}
+use Rattle.svg.specs.Meaning.{origin, drawn_from, meaning}
+use Rattle.svg.specs.Import.{Told, import_of}
 use Rattle.svg.specs.Imports.{all_after, all_kept, Imported, accepted_text}
 use Rattle.svg.specs.declared.reader.Ending.TheVariants.{Accepted as Read}
 use Rattle.watertight.specs.Fill.{Call, Accepted}

@@ -1,20 +1,20 @@
 -- What drawing commands left passes the profile. Assumes nothing.
 use Prim.Native.Nat.{ℕ, zero, suc, ◌+◌, ◌-◌, ◌*◌, ◌/◌, ◌%◌, ◌^◌, ◌<◌, ◌≤◌}
-use Rattle.std.specs.Prelude.{◌≡◌, ◌⊎◌, Bool, ◌&&◌, ◌||◌, cond, ltb, leb, get_or, take, drop}
+use Rattle.std.specs.Prelude.{◌≡◌, ◌⊎◌, Bool, ◌&&◌, cond, leb, get_or}
 use Rattle.std.proofs.Math.Path.{refl, ap, subst}
-use Rattle.std.proofs.Common.{sym, ◌∙◌, lit<, length-take, length-drop}
+use Rattle.std.proofs.Common.{sym, ◌∙◌, lit<}
 use Rattle.std.proofs.Math.Logic.{inl, inr}
 use Rattle.std.proofs.Math.Bool.{true, false, not}
-use mathlib.Core.List.{List, [], ◌∷◌, ◌++◌}
+use mathlib.Core.List.{List, [], ◌∷◌}
 use native.Mathlib.Omega.{arith}
 use Rattle.std.proofs.Math.Decide.{ℕ_discrete, dec_lt}
 use Rattle.std.proofs.Math.Dec.{eqb}
 use Rattle.std.proofs.Math.ListN.{length}
-use borrow.Author.Tests.{eq-eqb, ne_eqb, eqb-true, eqb-false, lt-ltb, le-ltb, le-leb, lt-leb}
+use borrow.Author.Tests.{eq-eqb, ne_eqb, le-ltb, lt-leb}
 use Rattle.records.specs.Record.{once}
 use Rattle.refusals.specs.Refusals.{Read, found}
-use Rattle.scene.specs.Tags.{bit, sums, tag_sums, plus, tag_data, byte_at, sums_below, sums_before}
-use Rattle.scene.specs.Reading.{wide, point_at, f32_point, point_words, point_count, reaches, segment_of, transform_of, flags_of}
+use Rattle.scene.specs.Tags.{bit, tag_sums, plus, tag_data, byte_at, sums_below, sums_before}
+use Rattle.scene.specs.Reading.{wide, point_at, f32_point, point_words, segment_of, transform_of, flags_of}
 use Rattle.scene.specs.Fresh.{byte_of, sums_to}
 use Rattle.scene.specs.FreshLaws.{placed, sums_at, sums_at_lem, roomy_tag}
 use Rattle.scene.specs.declared.tags.PathMonoid.{PathMonoid}
@@ -28,17 +28,17 @@ use Rattle.pattern.specs.Closed.{all_closed}
 use Rattle.pattern.specs.Closed as closed
 use Rattle.pattern.specs.declared.pen.Spot.{Spot}
 use Rattle.spiral.specs.Util.{eq_of}
-use Rattle.flatten.specs.Tag.{◌>>=◌, is_path, is_stroke, points_at, shape_at}
-use Rattle.flatten.specs.Found.{HeadParts, head_whole}
+use Rattle.flatten.specs.Tag.{◌>>=◌, is_path, is_stroke, shape_at}
+use Rattle.flatten.specs.Found.{head_whole}
 use Rattle.flatten.specs.Call.{first_turn, start_of}
 use Rattle.flatten.specs.declared.call.Stop.TheVariants as stop
 use Rattle.flatten.specs.declared.tag.Head.{Head}
-use Rattle.profile.specs.Reads.{Given, read_head, no_segment, read_transform, rest_by, read_at}
+use Rattle.profile.specs.Reads.{Given, read_head, no_segment, rest_by, read_at}
 use Rattle.profile.specs.Verdict.{profile_of}
 use Rattle.profile.specs.Rules as rules
 use Rattle.profile.specs.declared.sheet.Verdict.TheVariants.{Passed}
 use Rattle.profile.specs.Rules.{head_or, head_of, has_segment, has_end, is_even_odd, six_at, six_words, same_words, straight, aligned_to, point_of, first_of, last_of, segments, open_at, beginning, leading, facts_at, rule_at, rule_of, broken70, broken71, broken72, broken73, broken74, broken75}
-use Rattle.profile.specs.Passed.{AllFine, Sound, passes, FineFacts, fine_is}
+use Rattle.profile.specs.Passed.{passes, fine_is}
 use Rattle.profile.specs.declared.rules.Fault.TheVariants.{Fine}
 use Rattle.watertight.specs.Fill.{Call}
 use Rattle.watertight.specs.Fill as fills

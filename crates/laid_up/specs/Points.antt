@@ -1,11 +1,10 @@
 -- Where segments share their points: with a fresh scan a segment starts where the one before it ended. Assumes nothing.
-use Rattle.std.specs.Prelude.{ℕ, zero, suc, ◌+◌, ◌-◌, ◌*◌, ◌/◌, ◌%◌, ◌^◌, ◌<◌, ◌≤◌, max, Bool, ◌&&◌, ◌||◌, cond, List, [], ◌∷◌, eqb, ltb, leb, length}
+use Rattle.std.specs.Prelude.{ℕ, zero, suc, ◌+◌, ◌-◌, ◌*◌, ◌/◌, ◌%◌, ◌^◌, ◌<◌, ◌≤◌, max, Bool, ◌&&◌, cond, List, eqb, ltb, leb, length}
 use Rattle.std.proofs.Math.Path.{◌≡◌, refl, ap}
-use Rattle.std.proofs.Common.{sym, ◌∙◌, subst, mod-lt}
+use Rattle.std.proofs.Common.{sym, ◌∙◌, subst}
 use Rattle.std.proofs.Math.Bool.{true, false, not}
 use native.Mathlib.Omega.{arith}
 use borrow.Author.Tests.{ne_eqb, eqb-false, eqb-true, ltb-true}
-use Rattle.refusals.specs.Refusals.{found}
 use Rattle.spiral.specs.declared.util.Vec2.{Vec2}
 use Rattle.scene.specs.Tags.{bit, tag_sums, plus, tag_data}
 use Rattle.scene.specs.Reading.{wide, point_words, point_at, f32_point, point_count, reaches, segment_of}
@@ -14,12 +13,10 @@ use Rattle.scene.specs.FreshLaws.{sums_at_lem, sums_at, fresh_tag}
 use Rattle.scene.specs.declared.tags.PathTagData.{PathTagData}
 use Rattle.scene.specs.declared.reading.SegmentRead.{SegmentRead}
 use Rattle.flatten.specs.Found.{HeadParts, head_parts}
-use Rattle.flatten.specs.declared.tag.Head.{Head}
-use Rattle.profile.specs.Reads.{Given, read_at, no_segment}
-use Rattle.profile.specs.Rules.{head_of, has_segment, has_end, point_of, first_of, last_of, facts_at, broken70, broken71, broken72, broken73, broken74, broken75}
+use Rattle.profile.specs.Rules.{has_segment, has_end, point_of, first_of, last_of, facts_at, broken72, broken74}
 use Rattle.profile.specs.Trail.{InReach}
 use Rattle.profile.specs.Parts.{head_read_lem, in_reach}
-use Rattle.profile.specs.Passed.{Sound, PassedWith, passed_says, FineFacts, fine_says}
+use Rattle.profile.specs.Passed.{Sound, passed_says, FineFacts, fine_says}
 use Rattle.watertight.specs.Fill.{Call, tags}
 use Rattle.outlines.specs.Placing.{tag_words, FreshCall, data_at}
 use Rattle.laid_up.specs.Sheet.{scene_of, Passes, head_at}

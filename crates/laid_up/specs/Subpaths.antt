@@ -1,8 +1,8 @@
 -- A scene that passes on a fresh scan, and whose call is accepted, is watertight subpath by subpath, and each segment belongs to one subpath. Assumes nothing.
-use Prim.Native.Nat.{ℕ, zero, suc, ◌+◌, ◌-◌, ◌*◌, ◌%◌, ◌^◌, ◌<◌, ◌≤◌}
+use Prim.Native.Nat.{ℕ, zero, suc, ◌+◌, ◌*◌, ◌%◌, ◌<◌, ◌≤◌}
 use Rattle.std.proofs.Math.Path.{◌≡◌, refl, sym, ap}
 use Rattle.std.proofs.Common.{◌∙◌, subst}
-use Rattle.std.specs.Prelude.{Bool, not, ◌&&◌, ◌||◌, T, length, Float}
+use Rattle.std.specs.Prelude.{Bool, not, ◌&&◌, ◌||◌, length, Float}
 use Rattle.std.proofs.Math.Bool.{true, false, cond}
 use mathlib.Core.List.{List, [], ◌∷◌, ◌++◌, flatten, append-nil, append_assoc}
 use native.Mathlib.Omega.{arith}
@@ -10,7 +10,7 @@ use Rattle.std.proofs.Math.Decide.{ℕ_discrete}
 use Rattle.std.proofs.Math.Dec.{eqb}
 use borrow.Author.Tests.{eqb-true, eqb-false, eq-eqb, ne_eqb}
 use Rattle.records.specs.Record.{once}
-use Rattle.refusals.specs.Refusals.{Read, found}
+use Rattle.refusals.specs.Refusals.{found}
 use Rattle.spiral.specs.Util.{eq_of}
 use Rattle.spiral.specs.Points.{FitsPoint, eq→same_point, apply_same, identity_same}
 use Rattle.spiral.specs.declared.util.Vec2.{Vec2}
@@ -20,12 +20,11 @@ use Rattle.scene.specs.Reading.{floats_at, flags_of}
 use Rattle.scene.specs.declared.tags.PathTagData.{PathTagData}
 use Rattle.scene.specs.Points.{point_fits}
 use Rattle.flatten.specs.Tag.{is_stroke, events_by, events_at}
-use Rattle.flatten.specs.Found.{HeadParts, head_parts}
+use Rattle.flatten.specs.Found.{head_parts}
 use Rattle.flatten.specs.declared.tag.Head.{Head}
 use Rattle.pattern.specs.Every.{Every, none, more}
 use Rattle.profile.specs.Reads.{Given}
-use Rattle.profile.specs.Rules.{head_of, has_segment, has_end, ends, six_at, six_words, same_words, straight, aligned_to, point_of, first_of, last_of, segments, open_at, beginning, leading, facts_at, broken70, broken73, broken74}
-use Rattle.profile.specs.Passed.{FineFacts}
+use Rattle.profile.specs.Rules.{head_of, has_segment, has_end, six_at, six_words, same_words, aligned_to, point_of, first_of, last_of, segments, open_at, beginning, leading, facts_at, broken70, broken73, broken74}
 use Rattle.watertight.specs.Count.{starts_by, ends_by, is_at, bits_are}
 use Rattle.watertight.specs.Balance.{open_ends, starts_append, ends_append}
 use Rattle.watertight.specs.Fill.{Call, Accepted, tags, drawn_at, Each, lines_of, transform_words, read_events, written_by}
@@ -35,7 +34,7 @@ use Rattle.watertight.specs.Accepted.{done}
 use Rattle.watertight.specs.Stored.{as_drawn, CountedBy}
 use Rattle.outlines.specs.Placing.{FreshCall, Watertight}
 use Rattle.laid_up.specs.Sheet.{scene_of, Passes, head_at, segments_to, open_to, subpaths_to, tags_to, all_segments, all_subpaths, all_tags}
-use Rattle.laid_up.specs.Points.{sound, not_seg, and_left, facts, its_parts, point_here, starts_here, ends_there, stays_there}
+use Rattle.laid_up.specs.Points.{not_seg, and_left, facts, its_parts, point_here, starts_here, ends_there, stays_there}
 
 -- ---- lists
 

@@ -1,5 +1,4 @@
 -- `cut::Answer::report` meets its contract. Assumes nothing.
-use borrow.Author.Rules.{rules}
 use Rattle.cut.specs.Stages.{report_of}
 use Rattle.cut.proofs.Answer.report.Goals as goal
 

@@ -1,5 +1,4 @@
 -- `cut::Stage::number` meets its contract. Assumes nothing.
-use borrow.Author.Rules.{rules}
 use Rattle.cut.specs.Stages.{stage_of}
 use Rattle.cut.proofs.Stage.number.Goals as goal
 

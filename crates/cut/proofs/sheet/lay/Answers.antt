@@ -4,7 +4,6 @@ use mathlib.Core.Path.{sym, ap, ◌∙◌}
 use mathlib.Core.Logic.{inl, inr}
 use native.Mathlib.Omega.{arith}
 use lib.ListN.{length}
-use borrow.Author.Rules.{rules}
 use Rattle.flatten.specs.declared.call.Layout.{Layout}
 use Rattle.cut.specs.Sheet.{six_of, layout_by, layout_of, size_of, laid}
 use Rattle.cut.specs.SheetLaws.{told_is, few_tags, no_sheet_lem, a_sheet}

@@ -1,6 +1,5 @@
 -- `cut::sheet::layout_of` meets its contract. Assumes nothing.
 use mathlib.Core.Path.{refl}
-use borrow.Author.Rules.{rules}
 use Rattle.cut.specs.Sheet.{layout_by}
 use Rattle.cut.proofs.sheet.layout_of.Goals as goal
 

@@ -3,7 +3,6 @@ use Prim.Native.Nat.{◌-◌}
 use mathlib.Core.Path.{sym, ◌∙◌}
 use native.Mathlib.Omega.{arith}
 use lib.ListN.{length}
-use borrow.Author.Rules.{rules}
 use Rattle.cut.specs.Sheet.{six_of}
 use Rattle.cut.specs.SheetLaws.{few_tags, word_of_tags, word_of_points, word_of_tail}
 use Rattle.cut.proofs.sheet.sheet_word.Goals as goal

@@ -2,7 +2,6 @@
 use Prim.Native.Nat.{◌+◌}
 use mathlib.Core.Path.{◌≡◌, ◌∙◌}
 use native.Mathlib.Omega.{arith}
-use borrow.Author.Rules.{rules}
 use Rattle.cut.specs.Sheet.{groups, tag_words, size_of}
 use Rattle.cut.specs.SheetLaws.{told_small, told_large, many_tags, many_points}
 use Rattle.cut.proofs.sheet.size_of.Goals as goal

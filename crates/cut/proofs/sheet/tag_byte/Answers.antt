@@ -1,7 +1,6 @@
 -- `cut::sheet::tag_byte` meets its contract. Assumes nothing.
 use mathlib.Core.Path.{sym}
 use native.Mathlib.Omega.{arith}
-use borrow.Author.Rules.{rules}
 use Rattle.cut.specs.Sheet.{tag_bytes}
 use Rattle.cut.specs.SheetLaws.{drawn_byte, path_byte, no_byte}
 use Rattle.cut.proofs.sheet.tag_byte.Goals as goal

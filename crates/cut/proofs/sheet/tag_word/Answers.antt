@@ -3,7 +3,6 @@ use Prim.Native.Nat.{ℕ, ◌*◌}
 use mathlib.Core.Path.{sym, ap, ◌∙◌}
 use native.Mathlib.Nat.{add-zero}
 use lib.ListN.{get_or}
-use borrow.Author.Rules.{rules}
 use Rattle.cut.specs.Sheet.{tag_bytes, tag_word}
 use Rattle.cut.proofs.sheet.tag_word.Goals as goal
 

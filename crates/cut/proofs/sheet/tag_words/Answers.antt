@@ -1,6 +1,5 @@
 -- `cut::sheet::tag_words` meets its contract. Assumes nothing.
 use native.Mathlib.Omega.{arith}
-use borrow.Author.Rules.{rules}
 use Rattle.cut.specs.Sheet.{groups, tag_words}
 use Rattle.cut.proofs.sheet.tag_words.Goals as goal
 

@@ -1,7 +1,6 @@
 -- `cut::way::cut` meets its contract. Assumes nothing.
 use Rattle.cut.specs.Sheet.{six_of}
 use Rattle.cut.proofs.Ways.{smaller_fits, text_refused, text_goes}
-use borrow.Author.Rules.{rules}
 use Rattle.cut.proofs.way.cut.Goals as goal
 
 pub returns-then-report-ne0 : goal.returns-then-report-ne0

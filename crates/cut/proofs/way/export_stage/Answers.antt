@@ -1,5 +1,4 @@
 -- `cut::way::export_stage` meets its contract. Assumes nothing.
-use borrow.Author.Rules.{rules}
 use Rattle.cut.proofs.Ways.{export_refused, export_goes}
 use Rattle.cut.proofs.way.export_stage.Goals as goal
 

@@ -1,5 +1,4 @@
 -- `cut::way::flatten_stage` meets its contract. Assumes nothing.
-use borrow.Author.Rules.{rules}
 use Rattle.cut.proofs.Ways.{smaller_fits, flatten_refused, flatten_goes}
 use Rattle.cut.proofs.way.flatten_stage.Goals as goal
 

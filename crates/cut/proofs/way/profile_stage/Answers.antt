@@ -1,6 +1,5 @@
 -- `cut::way::profile_stage` meets its contract. Assumes nothing.
 use mathlib.Core.Path.{sym, ◌∙◌}
-use borrow.Author.Rules.{rules}
 use Rattle.cut.proofs.Ways.{profile_refused, profile_goes}
 use Rattle.cut.proofs.way.profile_stage.Goals as goal
 

@@ -1,6 +1,5 @@
 -- `cut::way::scan_stage` meets its contract. Assumes nothing.
 use mathlib.Core.Path.{sym, ◌∙◌}
-use borrow.Author.Rules.{rules}
 use Rattle.cut.proofs.Ways.{scan_refused, scan_goes}
 use Rattle.cut.proofs.way.scan_stage.Goals as goal
 

@@ -2,7 +2,6 @@
 use mathlib.Core.Path.{sym, ◌∙◌}
 use Rattle.cut.specs.Sheet.{six_of}
 use Rattle.cut.proofs.Ways.{sheet_refused, sheet_goes}
-use borrow.Author.Rules.{rules}
 use Rattle.cut.proofs.way.sheet_stage.Goals as goal
 
 pub returns-in-Sheet : goal.returns-in-Sheet
