@@ -1,6 +1,6 @@
 -- What was told of a moved sheet, written to `out`, is its report. Assumes nothing.
 use Prim.Native.Nat.{ℕ}
-use mathlib.Core.Path.{◌≡◌, sym, ap, ◌∙◌}
+use mathlib.Core.Path.{◌≡◌, ap, ◌∙◌}
 use mathlib.Core.List.{List}
 use Rattle.sheets.specs.Written.{told_of, Left, leaves, left}
 use Rattle.sheets.specs.declared.sheet.Told.{Told}

@@ -25,10 +25,10 @@ fn layout_of(head: &[u32; 1030]) -> Layout {
 // The answer, as its number, and the tag and the count of lines in `told`.
 fn write_answer(rt: &impl Print, number: u32, told: &[u64; 3]) -> io::Result<()> {
     if number == 0 {
-        output::write_count(rt, "lines ", told[1])?;
+        output::write_count(rt, b"lines ", told[1])?;
     } else {
-        output::write_count(rt, "refused ", number as u64)?;
-        output::write_count(rt, " at ", told[0])?;
+        output::write_count(rt, b"refused ", number as u64)?;
+        output::write_count(rt, b" at ", told[0])?;
     }
     output::end_line(rt)
 }
@@ -54,9 +54,10 @@ fn flatten_sheet(rt: &(impl Print + Eprint), words: [u32; 1030], count: usize) -
     let mut told = [0u64; 3];
     let number = report(answer, &mut told);
     write_answer(rt, number, &told)?;
-    output::say_why(rt, number, told[2])?;
+    let told_why = output::say_why(rt, number, told[2]);
     output::write_lines(rt, &lines, told[1])?;
-    output::write_boxes(rt, boxes, n)
+    output::write_boxes(rt, boxes, n)?;
+    told_why
 }
 
 fn main(rt: HostRuntime) -> io::Result<()> {

@@ -26,8 +26,9 @@ pub fn end_line(rt: &impl Print) -> io::Result<()> {
     rt.println("")
 }
 
-pub fn write_count(rt: &impl Print, before: &str, n: u64) -> io::Result<()> {
-    print!(rt; "{before}{n}")
+pub fn write_count(rt: &impl Print, before: &[u8], n: u64) -> io::Result<()> {
+    rt.write_all(before)?;
+    print!(rt; "{n}")
 }
 
 // A word of a line, and before all but the first a space.
@@ -72,8 +73,8 @@ fn write_box(rt: &impl Print, b: PathBox) -> io::Result<()> {
     write_signed(rt, b.y0)?;
     write_signed(rt, b.x1)?;
     write_signed(rt, b.y1)?;
-    write_count(rt, " ", b.draw_flags as u64)?;
-    write_count(rt, " ", b.trans_ix as u64)?;
+    write_count(rt, b" ", b.draw_flags as u64)?;
+    write_count(rt, b" ", b.trans_ix as u64)?;
     end_line(rt)
 }
 

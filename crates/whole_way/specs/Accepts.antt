@@ -24,7 +24,7 @@ use Rattle.watertight.specs.Fill.{Call, outcome}
 use Rattle.watertight.specs.Fill as fills
 use Rattle.hpgl.specs.Export.{cut_report}
 use Rattle.hpgl.specs.declared.Table.{Table}
-use Rattle.cut.specs.Sheet.{six_of, fill_style, layout_by, tag_words, size_of, fits, lay_of}
+use Rattle.cut.specs.Sheet.{six_of, fill_style, layout_by, size_of, fits, lay_of}
 use Rattle.cut.specs.Stages.{export_stage, flatten_stage, profile_stage, scan_stage, laid_by, sheet_stage, cut_of}
 use Rattle.cut.specs.declared.sheet.Six.{Six}
 use Rattle.cut.specs.declared.Answer.TheVariants.{Whole}

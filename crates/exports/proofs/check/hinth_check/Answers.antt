@@ -2,7 +2,6 @@
 use Prim.Native.Nat.{ℕ}
 use mathlib.Core.Path.{◌≡◌, ap, ◌∙◌}
 use mathlib.Core.List.{List}
-use borrow.Author.Rules.{rules}
 use Rattle.checker.specs.Verdict.{Answers, told_of}
 use Rattle.checker.specs.declared.Told.{Told}
 use Rattle.checker.specs.declared.Verdict.{Verdict}

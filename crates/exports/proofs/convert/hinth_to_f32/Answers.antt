@@ -1,5 +1,4 @@
 -- `exports::convert::hinth_to_f32` meets its contract. Assumes nothing.
-use borrow.Author.Rules.{rules}
 use Rattle.exports.proofs.Converted.{reported}
 use Rattle.exports.proofs.convert.hinth_to_f32.Goals as goal
 

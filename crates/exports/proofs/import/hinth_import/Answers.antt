@@ -1,5 +1,3 @@
-
-use borrow.Author.Rules.{rules}
 use Rattle.exports.proofs.Imports.{no_pen, was_read}
 use Rattle.exports.proofs.import.hinth_import.Goals as goal
 

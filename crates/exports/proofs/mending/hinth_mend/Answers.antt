@@ -2,7 +2,6 @@
 use Prim.Native.Nat.{ℕ}
 use mathlib.Core.Path.{◌≡◌, ap, ◌∙◌}
 use mathlib.Core.List.{List}
-use borrow.Author.Rules.{rules}
 use Rattle.mender.specs.Report.{Lent, Mends, told_of}
 use Rattle.mender.specs.declared.list.Outcome.{Outcome}
 use Rattle.mender.specs.declared.list.Told.{Told}

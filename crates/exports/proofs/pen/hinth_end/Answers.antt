@@ -1,6 +1,5 @@
 -- `exports::pen::hinth_end` meets its contract. Assumes nothing.
 use mathlib.Core.Path.{refl}
-use borrow.Author.Rules.{rules}
 use Rattle.pattern.specs.Commands.{end}
 use Rattle.exports.proofs.Pens.{too_short, answered}
 use Rattle.exports.proofs.pen.hinth_end.Goals as goal

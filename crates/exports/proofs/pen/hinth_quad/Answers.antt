@@ -1,5 +1,4 @@
 -- `exports::pen::hinth_quad` meets its contract. Assumes nothing.
-use borrow.Author.Rules.{rules}
 use Rattle.pattern.specs.Commands.{quad, draw}
 use Rattle.exports.specs.Pen.{spot_of}
 use Rattle.exports.proofs.Pens.{too_short, answered}

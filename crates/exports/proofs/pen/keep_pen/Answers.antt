@@ -1,6 +1,5 @@
 -- `exports::pen::keep_pen` meets its contract. Assumes nothing.
 use mathlib.Core.Path.{sym, ◌∙◌}
-use borrow.Author.Rules.{rules}
 use Rattle.exports.specs.Pen.{kept_by}
 use Rattle.exports.proofs.Pens.{kept_new, kept_old}
 use Rattle.exports.proofs.pen.keep_pen.Goals as goal

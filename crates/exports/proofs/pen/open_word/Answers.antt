@@ -1,5 +1,4 @@
 -- `exports::pen::open_word` meets its contract. Assumes nothing.
-use borrow.Author.Rules.{rules}
 use Rattle.exports.specs.Pen.{open_word}
 use Rattle.exports.proofs.pen.open_word.Goals as goal
 

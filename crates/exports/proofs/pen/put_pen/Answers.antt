@@ -1,6 +1,5 @@
 -- `exports::pen::put_pen` meets its contract. Assumes nothing.
 use native.Mathlib.Omega.{arith}
-use borrow.Author.Rules.{rules}
 use lib.ListN.{length-set}
 use Rattle.exports.specs.Pen.{pen_words}
 use Rattle.exports.proofs.pen.put_pen.Goals as goal

@@ -1,5 +1,4 @@
 -- `exports::pen::read_pen` meets its contract. Assumes nothing.
-use borrow.Author.Rules.{rules}
 use Rattle.exports.specs.Pen.{pen_read}
 use Rattle.exports.proofs.pen.read_pen.Goals as goal
 

@@ -1,6 +1,5 @@
 -- `exports::profiling::hinth_profile` meets its contract. Assumes nothing.
 use Rattle.exports.proofs.Profiled.{reported}
-use borrow.Author.Rules.{rules}
 use Rattle.exports.proofs.profiling.hinth_profile.Goals as goal
 
 pub returns : goal.returns

@@ -1,6 +1,5 @@
 -- `exports::scan::hinth_scan` meets its contract. Assumes nothing.
 use mathlib.Core.Path.{sym}
-use borrow.Author.Rules.{rules}
 use Rattle.scene.specs.Tags.{scan_told}
 use Rattle.exports.specs.Scan.{scanned_of}
 use Rattle.exports.proofs.scan.hinth_scan.Goals as goal

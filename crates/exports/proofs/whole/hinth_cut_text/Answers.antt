@@ -1,5 +1,4 @@
 -- `exports::whole::hinth_cut_text` meets its contract. Assumes nothing.
-use borrow.Author.Rules.{rules}
 use Rattle.exports.proofs.Wholes.{reported}
 use Rattle.exports.proofs.whole.hinth_cut_text.Goals as goal
 
