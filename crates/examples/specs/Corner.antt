@@ -1,6 +1,6 @@
 -- Two segments at a right angle with a bevel join. With a width of 2 they meet every condition. With a width of 2 ^ -23 they meet all but one: side + coincides at the join,
 -- side - does not, and a gap is left. Assumes nothing.
-use Rattle.std.specs.Prelude.{ℕ, zero, suc, ◌+◌, ◌^◌, ◌<◌, ◌≤◌, ◌≡◌, refl, true, false, replicate}
+use Rattle.std.specs.Prelude.{ℕ, zero, suc, ◌^◌, ◌<◌, ◌≤◌, ◌≡◌, refl, true, false, replicate}
 use mathlib.Core.List.{[], ◌∷◌, ◌++◌, flatten}
 use Rattle.std.proofs.Common.{arith}
 use Rattle.std.proofs.Math.Dec.{lit<}

@@ -10,10 +10,10 @@ use Rattle.scene.specs.Tags.{bit, tag_sums, plus, byte_at, sums_below, word_sums
 use Rattle.scene.specs.Fresh.{byte_of}
 use Rattle.scene.specs.Reading.{i16_of, point_count, floats_at, transform_of, flags_of, width_of}
 use Rattle.flatten.specs.Boxes.{fresh_box}
-use Rattle.flatten.specs.Tag.{◌>>=◌, boxed, head_at, is_stroke}
+use Rattle.flatten.specs.Tag.{◌>>=◌, boxed, head_at}
 use Rattle.watertight.specs.Fill.{Call, outcome, head_or, head_of, type_of, tags}
 use Rattle.sheets.specs.Moving.{is_old, new_tag, total, new_points, lead, unless, to_f32}
-use Rattle.same_lines.specs.Conditions.{bytes_to, Scanned, Roomy, counted, Stroked, Segment, Few, ReadsCounted, Followed, SheetMoved, SameLent, SameStyles, SameTransforms}
+use Rattle.same_lines.specs.Conditions.{bytes_to, Scanned, Roomy, counted, Segment, Few, ReadsCounted, Followed, SheetMoved, SameLent, SameStyles, SameTransforms}
 use Rattle.same_lines.specs.Sheets.{moved_sheet_flattens}
 use Rattle.examples.specs.Corner.{corner, two, corner_accepted}
 

@@ -1,5 +1,5 @@
 -- The triangle's call draws a closed fill and nothing else, so what `own_lists` asks is met, and its list passes the check. Assumes nothing.
-use Rattle.std.specs.Prelude.{ℕ, zero, suc, ◌+◌, ◌≤◌, ◌<◌, ◌≡◌, refl, false, List, [], ◌∷◌, eqb, length, take}
+use Rattle.std.specs.Prelude.{ℕ, zero, suc, ◌+◌, ◌≤◌, ◌<◌, ◌≡◌, refl, List, [], ◌∷◌, eqb, length, take}
 use Rattle.std.proofs.Common.{sym, ap, subst, arith, lit<, ne_eqb}
 use Rattle.std.specs.Float.Ieee.{of_bits}
 use Rattle.records.specs.Record.{once, is_bad, bad_at}

@@ -1,6 +1,6 @@
 -- The triangle, lent a box and room, is an accepted call that draws, and its three lines are a closed run: so the hypotheses of
 -- the theorems of `watertight` are met, and the theorems hold of its three records. Assumes nothing.
-use Rattle.std.specs.Prelude.{ℕ, ◌≡◌, refl, List, [], ◌∷◌}
+use Rattle.std.specs.Prelude.{ℕ, ◌≡◌, refl, [], ◌∷◌}
 use Rattle.std.proofs.Common.{ap, lit<}
 use Rattle.std.specs.Float.Ieee.{of_int, eq, round, neg}
 use Rattle.spiral.specs.Util.{eq_of}
@@ -10,7 +10,7 @@ use Rattle.scene.specs.Reading.{i16_of, i16_point, point_words, point_at, flags_
 use Rattle.flatten.specs.Tag.{◌>>=◌, boxed, head_at}
 use Rattle.flatten.specs.Call.{Outcome}
 use Rattle.watertight.specs.Count.{starts, ends}
-use Rattle.watertight.specs.Fill.{outcome, Accepted, head_or, head_of, point_of, Filled, Each, Follows, Run, final, Closed, lines_of, stored}
+use Rattle.watertight.specs.Fill.{outcome, Accepted, head_or, head_of, point_of, Each, Follows, Run, final, Closed, lines_of, stored}
 use Rattle.watertight.specs.Watertight.{watertight, watertight_stored}
 use Rattle.examples.specs.Table.{its_call, drawn, as_drawn}
 
