@@ -582,7 +582,7 @@ fn paces() -> [f64; 2] {
 
 fn in_time() -> Tally {
     let mut tally = Tally::default();
-    let [ours, _] = report::patiently(paces, |paces| paces[0] >= 50.0);
+    let [ours, _] = paces();
     tally.count(ours >= 50.0, || format!("read at {ours:.1} MB a second"));
     tally
 }

@@ -501,7 +501,7 @@ const MOST: f64 = 1.3;
 
 fn in_time() -> Tally {
     let mut tally = Tally::default();
-    let ([whole, parts], lines) = report::patiently(times, |([whole, parts], _)| *whole <= MOST * parts);
+    let ([whole, parts], lines) = times();
     tally.count(lines >= 1_000_000, || format!("only {lines} lines"));
     tally.count(whole <= MOST * parts, || format!("{whole:.3} s for {lines} lines, its parts {parts:.3} s"));
     tally
