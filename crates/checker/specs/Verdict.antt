@@ -1,9 +1,11 @@
 -- When a list of line records is sound, and what the check answers. Definitions only.
-use Rattle.std.specs.Prelude.{ℕ, ◌%◌, ◌≤◌, ◌<◌, ◌≡◌, Bool, true, false, not, ◌&&◌, List, eqb, length}
+use Rattle.std.specs.Prelude.{Result, Ok, Err, ℕ, ◌%◌, ◌≤◌, ◌<◌, ◌≡◌, Bool, true, false, not, ◌&&◌, List, eqb, length}
 use Rattle.records.specs.Record.{count, word, path_of, key, bad_at, starts, ends}
 use Rattle.checker.specs.declared.Told.{Told}
 use Rattle.checker.specs.declared.Verdict.{Verdict}
-use Rattle.checker.specs.declared.Verdict.TheVariants.{Sound, BadNumber, Unbalanced, TooMany, Leftover}
+use Rattle.checker.specs.declared.Verdict.TheVariants.{Sound, BadNumber, Unbalanced}
+use Rattle.checker.specs.declared.CheckError.{CheckError}
+use Rattle.checker.specs.declared.CheckError.TheVariants.{TooMany, Leftover}
 
 -- ---- a sound list
 
@@ -46,21 +48,27 @@ pub record Taken (ws : List ℕ) : Type 0 where
   pub few : count ws ≤ 2000
   pub whole : length ws % 6 ≡ 0
 
--- that a verdict is the answer to the list
-unfoldable pub Answers : List ℕ → Verdict → Type 0
-Answers ws Sound = Taken ws × SoundList ws
-Answers ws (BadNumber k) = Taken ws × First (bad_at ws) (count ws) k
-Answers ws (Unbalanced k) = Taken ws × Finite ws × First (uneven_at ws) (count ws) k
-Answers ws TooMany = 2000 < count ws
-Answers ws Leftover = (count ws ≤ 2000) × (length ws % 6 ≡ 0 → ⊥)
+-- that a verdict or a refusal is the answer to the list
+unfoldable pub Answers : List ℕ → Result Verdict CheckError → Type 0
+Answers ws (Ok Sound) = Taken ws × SoundList ws
+Answers ws (Ok (BadNumber k)) = Taken ws × First (bad_at ws) (count ws) k
+Answers ws (Ok (Unbalanced k)) = Taken ws × Finite ws × First (uneven_at ws) (count ws) k
+Answers ws (Err TooMany) = 2000 < count ws
+Answers ws (Err Leftover) = (count ws ≤ 2000) × (length ws % 6 ≡ 0 → ⊥)
 
 -- the verdict in numbers: 0 or the refusal's; 1 for a bad number, 2 for an end out of balance; the record
 abbrev pub says : ℕ → ℕ → ℕ → Told
 says number verdict k = record { number = number; verdict = verdict; «record» = k }
 
-unfoldable pub told_of : Verdict → Told
-told_of Sound = says 0 0 0
-told_of (BadNumber k) = says 0 1 k
-told_of (Unbalanced k) = says 0 2 k
-told_of TooMany = says 50 0 0
-told_of Leftover = says 51 0 0
+abbrev pub verdict_told : Verdict → Told
+verdict_told Sound = says 0 0 0
+verdict_told (BadNumber k) = says 0 1 k
+verdict_told (Unbalanced k) = says 0 2 k
+
+abbrev pub number_of : CheckError → ℕ
+number_of TooMany = 50
+number_of Leftover = 51
+
+unfoldable pub told_of : Result Verdict CheckError → Told
+told_of (Ok v) = verdict_told v
+told_of (Err e) = says (number_of e) 0 0

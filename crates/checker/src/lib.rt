@@ -3,10 +3,10 @@
 
 ghost use Rattle.std.specs.Prelude.{◌≡◌};
 ghost use Rattle.records.specs.Record.{count, bad_at};
-ghost use Rattle.checker.specs.Verdict.{uneven_at, Answers, told_of};
-ghost use Rattle.checker.specs.Search.{Stop};
+ghost use Rattle.checker.specs.Verdict.{uneven_at, Answers, number_of, verdict_told, told_of};
+ghost use Rattle.checker.specs.Search.{Finds};
 
-use records::{bad_at, count_both, key_at, word_at};
+use records::{bad_at, count_both, keys_at, word_at};
 
 // A record is told by its number, from 0.
 #[derive(Clone, Copy)]
@@ -14,8 +14,24 @@ pub enum Verdict {
     Sound,
     BadNumber(usize),
     Unbalanced(usize),
+}
+
+// Why a list is not looked at.
+#[derive(Clone, Copy)]
+pub enum CheckError {
     TooMany,
     Leftover,
+}
+
+impl CheckError {
+    pub fn number(self) -> u32
+        ensures { result ≡ number_of self }
+    {
+        match self {
+            CheckError::TooMany => 50,
+            CheckError::Leftover => 51,
+        }
+    }
 }
 
 // The verdict in numbers: 0 or the refusal's; then what is wrong, and in which record.
@@ -26,9 +42,25 @@ pub struct Told {
     pub record: usize,
 }
 
+impl From<Result<Verdict, CheckError>> for Told {
+    ghost from_gives = { λ a t. t ≡ told_of a };
+
+    #[tactic(auto, unfolding(crate::specs::Verdict::told_of))]
+    fn from(answer: Result<Verdict, CheckError>) -> Told {
+        match answer {
+            Ok(v) => v.told(),
+            Err(e) => Told {
+                number: e.number(),
+                verdict: 0,
+                record: 0,
+            },
+        }
+    }
+}
+
 impl Verdict {
-    pub fn told(self) -> Told
-        ensures { result ≡ told_of self }
+    fn told(self) -> Told
+        ensures { result ≡ verdict_told self }
     {
         match self {
             Verdict::Sound => Told {
@@ -46,16 +78,6 @@ impl Verdict {
                 verdict: 2,
                 record: k,
             },
-            Verdict::TooMany => Told {
-                number: 50,
-                verdict: 0,
-                record: 0,
-            },
-            Verdict::Leftover => Told {
-                number: 51,
-                verdict: 0,
-                record: 0,
-            },
         }
     }
 }
@@ -65,59 +87,37 @@ fn uneven_at(list: &[u32], k: usize) -> bool
     ensures { result ≡ uneven_at list.now k }
 {
     let path = word_at(list, k, 0);
-    let x = key_at(list, k, 2);
-    let y = key_at(list, k, 3);
-    let z = key_at(list, k, 4);
-    let w = key_at(list, k, 5);
-    let c = count_both(list, path, x, y, z, w);
+    let c = count_both(list, path, keys_at(list, k));
     !((c.starts0 == c.ends0) & (c.starts1 == c.ends1))
 }
 
-fn first_bad(list: &[u32], n: usize) -> usize
-    requires { n ≡ count list.now }
-    ensures { Stop (bad_at list.now) n result }
+fn first_bad(list: &[u32], n: usize) -> Option<usize>
+    ensures { Finds (bad_at list.now) n result }
 {
-    let mut k: usize = 0;
-    while k < n {
-        if bad_at(list, k) {
-            return k;
-        }
-        k += 1;
-    }
-    k
+    (0..n).find(|k| bad_at(list, *k))
 }
 
-fn first_uneven(list: &[u32], n: usize) -> usize
-    requires { n ≡ count list.now }
-    ensures { Stop (uneven_at list.now) n result }
+fn first_uneven(list: &[u32], n: usize) -> Option<usize>
+    ensures { Finds (uneven_at list.now) n result }
 {
-    let mut k: usize = 0;
-    while k < n {
-        if uneven_at(list, k) {
-            return k;
-        }
-        k += 1;
-    }
-    k
+    (0..n).find(|k| uneven_at(list, *k))
 }
 
-pub fn check(list: &[u32]) -> Verdict
+pub fn check(list: &[u32]) -> Result<Verdict, CheckError>
     ensures { Answers list.now result }
 {
     let n = list.len() / 6;
     if 2000 < n {
-        return Verdict::TooMany;
+        return Err(CheckError::TooMany);
     }
     if list.len() % 6 != 0 {
-        return Verdict::Leftover;
+        return Err(CheckError::Leftover);
     }
-    let b = first_bad(list, n);
-    if b < n {
-        return Verdict::BadNumber(b);
+    if let Some(k) = first_bad(list, n) {
+        return Ok(Verdict::BadNumber(k));
     }
-    let u = first_uneven(list, n);
-    if u < n {
-        return Verdict::Unbalanced(u);
+    if let Some(k) = first_uneven(list, n) {
+        return Ok(Verdict::Unbalanced(k));
     }
-    Verdict::Sound
+    Ok(Verdict::Sound)
 }

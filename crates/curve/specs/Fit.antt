@@ -53,13 +53,14 @@ unfoldable pub times_root : Float → Float
 times_root x = x ⊗ sqrt_of (abs_of x)
 
 unfoldable pub low_dist_of : Float → Float → EspcRobust
-low_dist_of k0 k1 = LowDist k1 k0 (times_root (k1 ⊕ k0) ⊖ times_root k0) (times_root k0)
+low_dist_of k0 k1 =
+    LowDist (record { a = k1; b = k0; integral = times_root (k1 ⊕ k0) ⊖ times_root k0; int0 = times_root k0 })
 
 unfoldable pub normal_of : Float → Float → Float → EspcRobust
 normal_of k0 k1 dist =
     let a = neg (whole 2) ⊗ dist ⊗ k1 in
     let b = neg (whole 1) ⊖ whole 2 ⊗ dist ⊗ k0 in
-    Normal a b (espc_int_approx (a ⊕ b) ⊖ espc_int_approx b) (espc_int_approx b)
+    Normal (record { a = a; b = b; integral = espc_int_approx (a ⊕ b) ⊖ espc_int_approx b; int0 = espc_int_approx b })
 
 unfoldable pub robust_of : Float → Float → Float → EspcRobust
 robust_of k0 k1 dist =
@@ -68,8 +69,8 @@ robust_of k0 k1 dist =
 -- the number of lines over the multiplier
 unfoldable pub n_frac_of : EspcRobust → Float → Float → Float → Float
 n_frac_of LowK1 k0 k1 dist = integrand_of (k0 ⊕ dec 5 1 ⊗ k1) dist
-n_frac_of (LowDist a b integral int0) k0 k1 dist = (whole 2 ⊘ whole 3) ⊗ integral ⊘ a
-n_frac_of (Normal a b integral int0) k0 k1 dist = integral ⊗ integrand_of (k0 ⊖ k1 ⊗ b ⊘ a) dist ⊘ a
+n_frac_of (LowDist e) k0 k1 dist = (whole 2 ⊘ whole 3) ⊗ e.integral ⊘ e.a
+n_frac_of (Normal e) k0 k1 dist = e.integral ⊗ integrand_of (k0 ⊖ k1 ⊗ e.b ⊘ e.a) dist ⊘ e.a
 
 -- offset, scale, the ends of the range, and what was read off the cubic
 unfoldable pub fit_of : Float → Float → Vec2 → Vec2 → CubicParams → Fit
@@ -92,10 +93,10 @@ fit_of offset scale p0 p1 c =
 -- the parameter of the spiral at a part t of the lines
 unfoldable pub spread_of : EspcRobust → Float → Float
 spread_of LowK1 t = t
-spread_of (LowDist a b integral int0) t =
-    let c = cbrt_of (integral ⊗ t ⊕ int0) in
-    (c ⊗ abs_of c ⊖ b) ⊘ a
-spread_of (Normal a b integral int0) t = (espc_int_inv_approx (integral ⊗ t ⊕ int0) ⊖ b) ⊘ a
+spread_of (LowDist e) t =
+    let c = cbrt_of (e.integral ⊗ t ⊕ e.int0) in
+    (c ⊗ abs_of c ⊖ e.b) ⊘ e.a
+spread_of (Normal e) t = (espc_int_inv_approx (e.integral ⊗ t ⊕ e.int0) ⊖ e.b) ⊘ e.a
 
 -- where line i ends, the first being line 1
 unfoldable pub place_of : Fit → ℕ → Vec2

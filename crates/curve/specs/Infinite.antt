@@ -2,7 +2,7 @@
 use Prim.Native.Nat.{ℕ, zero, suc, ◌+◌, ◌-◌, ◌*◌, ◌/◌, ◌≤◌}
 use Rattle.std.proofs.Math.Path.{◌≡◌, refl}
 use Rattle.std.proofs.Common.{sym, ap, ◌∙◌, subst, inl, inr, ⊎_elim, length-append}
-use Rattle.std.specs.Prelude.{◌⊎◌, Bool, not, ◌||◌, ◌&&◌, cond, T, ltb, length, Float}
+use Rattle.std.specs.Prelude.{◌⊎◌, Bool, not, ◌||◌, ◌&&◌, cond, T, ltb, length, Float, Ok}
 use Rattle.std.proofs.Math.Bool.{true, false}
 use mathlib.Core.List.{List, [], ◌∷◌, ◌++◌, flatten, append-nil}
 use native.Mathlib.Omega.{arith}
@@ -18,11 +18,9 @@ use Rattle.spiral.specs.Points.{identity_not_finite}
 use Rattle.spiral.specs.Util.{has_nan, apply_of}
 use Rattle.spiral.specs.declared.util.Vec2.{Vec2}
 use Rattle.drawing.specs.Cubic.{point}
-use Rattle.drawing.specs.Sheet.{Event, line, no_count, no_join, line_through, Sheet, sheet, record_of, pen_behind, has_room, stored, draw_on, draw, draw_all, is_stopped}
+use Rattle.drawing.specs.Sheet.{Event, line, no_count, no_join, line_through, Sheet, sheet, record_of, pen_behind, has_room, stored, draw_on, draw, draw_all, is_stopped, Drawn, halt}
 use Rattle.drawing.specs.SheetLaws.{absorbs}
 use Rattle.drawing.specs.declared.line.Pen.{Pen}
-use Rattle.drawing.specs.declared.line.Drawn.{Drawn}
-use Rattle.drawing.specs.declared.line.Drawn.TheVariants.{On, Stopped}
 use Rattle.curve.specs.Fit.{place_of}
 use Rattle.curve.specs.Curve.{line_of, lines_of, range_of, Front, Trail, onward, tip_of, accepted, is_point, side_events, device_side, euler_events}
 use Rattle.curve.specs.Walks.{walks, flatten_append}
@@ -119,9 +117,9 @@ ends_spoilt a b es h c n = ⊎_elim (spoilt_start a b es h c) (λ s. s) (spoilt_
 
 -- by 5, by 8 where a count is none, or by 6 for want of room
 pub data Refused (ws : List ℕ) : Drawn → Type 0 where
-  not_number : (at : LineEnd) (n : ℕ) → Refused ws (Stopped (NotNumber at) n)
-  count_is_none : (n : ℕ) → Refused ws (Stopped NoCount n)
-  no_room_lem : (n : ℕ) → has_room ws n ≡ false → Refused ws (Stopped NoRoom n)
+  not_number : (at : LineEnd) (n : ℕ) → Refused ws (halt (NotNumber at) n)
+  count_is_none : (n : ℕ) → Refused ws (halt NoCount n)
+  no_room_lem : (n : ℕ) → has_room ws n ≡ false → Refused ws (halt NoRoom n)
 
 same_room : (ws ws' : List ℕ) (n : ℕ) → length ws' ≡ length ws → has_room ws' n ≡ has_room ws n
 unfolding has_room
@@ -136,20 +134,20 @@ module _ (path : ℕ) where
   stopped : (ws : List ℕ) (d : Drawn) (es : List Event) → is_stopped d ≡ true → Refused ws d → Refused ws (draw_all path (sheet ws d) es).drawn
   stopped ws d es h r = subst (λ (s : Sheet). Refused ws s.drawn) (absorbs path ws d es h) r
 
-  line_refused : (ws : List ℕ) (pen : Pen) (p q : Vec2) (es : List Event) (s t u : Bool) → has_room ws pen.count ≡ u → (s || t ≡ true) ⊎ ((ws : List ℕ) (pen : Pen) → Refused ws (draw_all path (sheet ws (On pen)) es).drawn)
+  line_refused : (ws : List ℕ) (pen : Pen) (p q : Vec2) (es : List Event) (s t u : Bool) → has_room ws pen.count ≡ u → (s || t ≡ true) ⊎ ((ws : List ℕ) (pen : Pen) → Refused ws (draw_all path (sheet ws (Ok pen)) es).drawn)
       → Refused ws (draw_all path (stored s t u path ws pen p q) es).drawn
   unfolding stored is_stopped
-  line_refused ws pen p q es true t u h r = stopped ws (Stopped (NotNumber Start) pen.count) es refl (not_number Start pen.count)
-  line_refused ws pen p q es false true u h r = stopped ws (Stopped (NotNumber End) pen.count) es refl (not_number End pen.count)
-  line_refused ws pen p q es false false false h r = stopped ws (Stopped NoRoom pen.count) es refl (no_room_lem pen.count h)
+  line_refused ws pen p q es true t u h r = stopped ws (halt (NotNumber Start) pen.count) es refl (not_number Start pen.count)
+  line_refused ws pen p q es false true u h r = stopped ws (halt (NotNumber End) pen.count) es refl (not_number End pen.count)
+  line_refused ws pen p q es false false false h r = stopped ws (halt NoRoom pen.count) es refl (no_room_lem pen.count h)
   line_refused ws pen p q es false false true h (inl e) = let z : ◌≡◌ {A = ℕ} 0 1 = cc in absurd (omega arith)
   line_refused ws pen p q es false false true h (inr rest) =
       let ws' = sets ws (pen.count * 6) (record_of path pen.tag p q) in
       as_before ws ws' (length-sets ws (pen.count * 6) (record_of path pen.tag p q)) (rest ws' (pen_behind pen p q))
 
-  spoilt_refused : {es : List Event} → Spoilt es → (ws : List ℕ) (pen : Pen) → Refused ws (draw_all path (sheet ws (On pen)) es).drawn
+  spoilt_refused : {es : List Event} → Spoilt es → (ws : List ℕ) (pen : Pen) → Refused ws (draw_all path (sheet ws (Ok pen)) es).drawn
   unfolding draw_all draw draw_on is_stopped
-  spoilt_refused (no_count_lem {es}) ws pen = stopped ws (Stopped NoCount pen.count) es refl (count_is_none pen.count)
+  spoilt_refused (no_count_lem {es}) ws pen = stopped ws (halt NoCount pen.count) es refl (count_is_none pen.count)
   spoilt_refused (no_number {p} {q} {es} h) ws pen = line_refused ws pen p q es (has_nan p) (has_nan q) (has_room ws pen.count) refl (inl h)
   spoilt_refused (later {p} {q} {es} s) ws pen = line_refused ws pen p q es (has_nan p) (has_nan q) (has_room ws pen.count) refl (inr (spoilt_refused s))
 
@@ -171,5 +169,5 @@ module _ (cubic : List Vec2) (z : List Float) (offset : Float) (start end : Vec2
   spoilt (inr h) = ends_spoilt _ _ _ plain (fill_chain cubic z offset start end device) (no_number_at (point cubic 3) h)
 
   pub infinite_refused : NotFinite (apply_of z (point cubic 0)) ⊎ NotFinite (apply_of z (point cubic 3))
-      → (path : ℕ) (ws : List ℕ) (pen : Pen) → Refused ws (draw_all path (sheet ws (On pen)) (euler_events cubic z offset start end)).drawn
+      → (path : ℕ) (ws : List ℕ) (pen : Pen) → Refused ws (draw_all path (sheet ws (Ok pen)) (euler_events cubic z offset start end)).drawn
   infinite_refused h path ws pen = spoilt_refused path (spoilt h) ws pen

@@ -1,6 +1,6 @@
 -- A filled segment with an inner control point that is not finite in device space, an infinity or a NaN, is refused by 8 before any line of it, whatever the room: its first range has no count; unless its four points are one, which draw nothing.
 -- So is one whose inner point is not finite as it is read, under every transform, and a quad with its one control point. Assumes nothing.
-use Rattle.std.specs.Prelude.{ℕ, zero, suc, ◌+◌, ◌*◌, ◌^◌, ◌≤◌, ◌<◌, ◌≡◌, refl, ◌⊎◌, Bool, true, not, cond, T, get_or, Float}
+use Rattle.std.specs.Prelude.{ℕ, zero, suc, ◌+◌, ◌*◌, ◌^◌, ◌≤◌, ◌<◌, ◌≡◌, refl, ◌⊎◌, Bool, true, not, cond, T, get_or, Float, Ok}
 use Rattle.std.proofs.Common.{sym, ◌∙◌, subst, pow-suc, zero-lt-suc, arith}
 use Rattle.std.proofs.Math.Path.{ap}
 use Rattle.std.proofs.Math.Logic.{inl, inr}
@@ -20,10 +20,9 @@ use Rattle.spiral.specs.Euler.{tangent_thresh, long_chord, from_points_derivs, f
 use Rattle.spiral.specs.declared.util.Vec2.{Vec2}
 use Rattle.spiral.specs.declared.euler.CubicParams.{CubicParams}
 use Rattle.drawing.specs.Cubic.{point, cubic_point, cubic_deriv, cubic_at}
-use Rattle.drawing.specs.Sheet.{Event, no_count, Sheet, sheet, draw_on, draw, draw_all, is_stopped}
+use Rattle.drawing.specs.Sheet.{Event, no_count, Sheet, sheet, draw_on, draw, draw_all, is_stopped, halt}
 use Rattle.drawing.specs.SheetLaws.{absorbs}
 use Rattle.drawing.specs.declared.line.Pen.{Pen}
-use Rattle.drawing.specs.declared.line.Drawn.TheVariants.{On, Stopped}
 use Rattle.curve.specs.Fit.{is_short, tip_at, params_of, low_dist_of, normal_of, robust_of, n_frac_of, fit_of}
 use Rattle.curve.specs.Curve.{range_of, Front, Trail, onward, part, tip_of, accepted, is_point, side_events, device_side, euler_events}
 use Rattle.curve.specs.Walks.{walks, flatten_append}
@@ -186,9 +185,9 @@ module _ (s : Side) (inner : ByAxis (point s.points 1) (point s.points 2)) where
   side_stops h = rw h (walks s Stops leaf join 16 0 _ (omega arith))
 
 -- ---- and is refused by 8
-stopped : (path : ℕ) (ws : List ℕ) (pen : Pen) {es : List Event} → Uncounted es → draw_all path (sheet ws (On pen)) es ≡ sheet ws (Stopped NoCount pen.count)
+stopped : (path : ℕ) (ws : List ℕ) (pen : Pen) {es : List Event} → Uncounted es → draw_all path (sheet ws (Ok pen)) es ≡ sheet ws (halt NoCount pen.count)
 unfolding draw_all draw draw_on is_stopped
-stopped path ws pen (uncounted {es}) = sym (absorbs path ws (Stopped NoCount pen.count) es refl)
+stopped path ws pen (uncounted {es}) = sym (absorbs path ws (halt NoCount pen.count) es refl)
 
 device_inner : (cubic : List Vec2) (z : List Float) (offset : Float) → NotFinite (apply_of z (point cubic 1)) ⊎ NotFinite (apply_of z (point cubic 2))
     → ByAxis (point (device_side cubic z offset).points 1) (point (device_side cubic z offset).points 2)
@@ -197,7 +196,7 @@ device_inner cubic z offset h = by_axis (apply_of z (point cubic 1)) (apply_of z
 
 pub inner_refused : (cubic : List Vec2) (z : List Float) (offset : Float) (start end : Vec2) → eq offset (whole 0) ≡ true → is_point (device_side cubic z offset).points ≡ false
     → NotFinite (apply_of z (point cubic 1)) ⊎ NotFinite (apply_of z (point cubic 2))
-    → (path : ℕ) (ws : List ℕ) (pen : Pen) → draw_all path (sheet ws (On pen)) (euler_events cubic z offset start end) ≡ sheet ws (Stopped NoCount pen.count)
+    → (path : ℕ) (ws : List ℕ) (pen : Pen) → draw_all path (sheet ws (Ok pen)) (euler_events cubic z offset start end) ≡ sheet ws (halt NoCount pen.count)
 unfolding euler_events
 inner_refused cubic z offset start end device apart h path ws pen =
     rw device (stopped path ws pen (side_stops (device_side cubic z offset) (device_inner cubic z offset h) apart))
@@ -205,13 +204,13 @@ inner_refused cubic z offset start end device apart h path ws pen =
 -- ---- wherever the point is: at an end or inside, by 5 or 8, or by 6 for want of room
 pub any_refused : (cubic : List Vec2) (z : List Float) (offset : Float) (start end : Vec2) → eq offset (whole 0) ≡ true → is_point (device_side cubic z offset).points ≡ false
     → (i : ℕ) → i < 4 → NotFinite (apply_of z (point cubic i))
-    → (path : ℕ) (ws : List ℕ) (pen : Pen) → Refused ws (draw_all path (sheet ws (On pen)) (euler_events cubic z offset start end)).drawn
+    → (path : ℕ) (ws : List ℕ) (pen : Pen) → Refused ws (draw_all path (sheet ws (Ok pen)) (euler_events cubic z offset start end)).drawn
 any_refused cubic z offset start end device apart i l h path ws pen = go i l h
   where
-    inside : NotFinite (apply_of z (point cubic 1)) ⊎ NotFinite (apply_of z (point cubic 2)) → Refused ws (draw_all path (sheet ws (On pen)) (euler_events cubic z offset start end)).drawn
+    inside : NotFinite (apply_of z (point cubic 1)) ⊎ NotFinite (apply_of z (point cubic 2)) → Refused ws (draw_all path (sheet ws (Ok pen)) (euler_events cubic z offset start end)).drawn
     inside k = subst (λ (s : Sheet). Refused ws s.drawn) (sym (inner_refused cubic z offset start end device apart k path ws pen)) (count_is_none pen.count)
 
-    go : (i : ℕ) → i < 4 → NotFinite (apply_of z (point cubic i)) → Refused ws (draw_all path (sheet ws (On pen)) (euler_events cubic z offset start end)).drawn
+    go : (i : ℕ) → i < 4 → NotFinite (apply_of z (point cubic i)) → Refused ws (draw_all path (sheet ws (Ok pen)) (euler_events cubic z offset start end)).drawn
     go zero l k = infinite_refused cubic z offset start end device apart (inl k) path ws pen
     go (suc zero) l k = inside (inl k)
     go (suc (suc zero)) l k = inside (inr k)

@@ -1,4 +1,6 @@
 // One range of a cubic: where it ends, how far off a fitted spiral is, and the points along that spiral.
+#![tactic(auto, unfolding(crate::specs::Fit::is_short, crate::specs::Fit::first_tip, crate::specs::Fit::tip_at, crate::specs::Fit::params_of, crate::specs::Fit::multiplier_of, crate::specs::Fit::integrand_of, crate::specs::Fit::times_root, crate::specs::Fit::low_dist_of, crate::specs::Fit::normal_of, crate::specs::Fit::robust_of, crate::specs::Fit::n_frac_of, crate::specs::Fit::fit_of, crate::specs::Fit::spread_of, crate::specs::Fit::place_of, crate::specs::Straight::is_straight, drawing::proofs::Floats::of_bits, drawing::proofs::Floats::round))]
+
 ghost use Rattle.std.specs.Prelude.{◌≡◌};
 ghost use Rattle.curve.specs.Fit.{is_short, first_tip, tip_at, params_of, multiplier_of, integrand_of, times_root, low_dist_of, normal_of, robust_of, n_frac_of, fit_of, spread_of, place_of};
 ghost use Rattle.curve.specs.Straight.{is_straight};
@@ -31,15 +33,24 @@ pub struct Tip {
     pub t: f32,
 }
 
-// How the points of a range are spread along the offset curve: the numbers are a, b, integral, int0.
+// The scale and the shift of a parameter, and the integral from there on and up to there.
+#[derive(Clone, Copy)]
+pub struct Espc {
+    pub a: f32,
+    pub b: f32,
+    pub integral: f32,
+    pub int0: f32,
+}
+
+// How the points of a range are spread along the offset curve.
 #[derive(Clone, Copy)]
 pub enum EspcRobust {
     // k1 is low: as along a circular arc.
     LowK1,
     // The distance is low: as along the spiral itself.
-    LowDist(f32, f32, f32, f32),
+    LowDist(Espc),
     // Both are large enough to divide by.
-    Normal(f32, f32, f32, f32),
+    Normal(Espc),
 }
 
 // A range's spiral, the offset over its chord, how its points are spread, and the number of its lines.
@@ -62,7 +73,7 @@ pub fn first_tip(points: [Vec2; 4]) -> Tip
     ensures { result ≡ first_tip points }
 {
     let p = points[0];
-    let q = points[1].sub(p);
+    let q = points[1] - p;
     if is_short(q) {
         let q = eval_cubic_and_deriv(points, DERIV_EPS).q;
         return Tip { p, q, t: 0.0 };
@@ -119,79 +130,88 @@ fn times_root(x: f32) -> f32
     x * maths::sqrt(maths::abs(x))
 }
 
-fn low_dist(k0: f32, k1: f32) -> EspcRobust
-    ensures { result ≡ low_dist_of k0 k1 }
-{
-    let int0 = times_root(k0);
-    let int1 = times_root(k1 + k0);
-    EspcRobust::LowDist(k1, k0, int1 - int0, int0)
-}
-
-fn normal(k0: f32, k1: f32, dist: f32) -> EspcRobust
-    ensures { result ≡ normal_of k0 k1 dist }
-{
-    let a = -2.0 * dist * k1;
-    let b = -1.0 - 2.0 * dist * k0;
-    let int0 = espc_int_approx(b);
-    let int1 = espc_int_approx(a + b);
-    EspcRobust::Normal(a, b, int1 - int0, int0)
-}
-
-fn robust_of(k0: f32, k1: f32, dist: f32) -> EspcRobust
-    ensures { result ≡ robust_of k0 k1 dist }
-{
-    if maths::abs(k1) < K1_THRESH {
-        return EspcRobust::LowK1;
-    }
-    if maths::abs(dist) < DIST_THRESH {
-        return low_dist(k0, k1);
-    }
-    normal(k0, k1, dist)
-}
-
-// The number of lines over the multiplier.
-fn n_frac(robust: EspcRobust, k0: f32, k1: f32, dist: f32) -> f32
-    ensures { result ≡ n_frac_of robust k0 k1 dist }
-{
-    match robust {
-        EspcRobust::LowK1 => integrand(k0 + 0.5 * k1, dist),
-        EspcRobust::LowDist(a, _, integral, _) => (2.0 / 3.0) * integral / a,
-        EspcRobust::Normal(a, b, integral, _) => integral * integrand(k0 - k1 * b / a, dist) / a,
-    }
-}
-
 // Whether an arc is one line, told without a root: see specs/Straight.antt.
 fn is_straight(bend: f32, length: f32) -> bool
     ensures { result ≡ is_straight bend length }
 {
-    if maths::abs(bend) <= 0.000244140625 {
-        if 0.0 <= length {
-            return length <= 16384.0;
-        }
-    }
-    false
+    maths::abs(bend) <= 0.000244140625 && 0.0 <= length && length <= 16384.0
 }
 
-// The number of lines, which may be a NaN. Most straight segments are one line, and no root is taken to find that.
-fn line_count(
-    robust: EspcRobust,
+// How a range bends: its curvature at the start and what is added to it along the range, both over the chord, and the offset.
+#[derive(Clone, Copy)]
+struct Bend {
     k0: f32,
     k1: f32,
     dist: f32,
-    scale: f32,
-    chord: f32,
-    ch: f32,
-) -> f32
-    ensures { result ≡ clamp_of (ceil_of (n_frac_of robust k0 k1 dist ⊗ multiplier_of scale chord ch)) (whole 1) (whole 100) }
-{
-    if let EspcRobust::LowK1 = robust {
-        let k = k0 + 0.5 * k1;
-        if is_straight(k * (k * dist + 1.0), scale * chord / (ch * TOL)) {
-            return 1.0;
+}
+
+impl Bend {
+    fn low_dist(self) -> EspcRobust
+        ensures { result ≡ low_dist_of self.k0 self.k1 }
+    {
+        let int0 = times_root(self.k0);
+        let int1 = times_root(self.k1 + self.k0);
+        EspcRobust::LowDist(Espc {
+            a: self.k1,
+            b: self.k0,
+            integral: int1 - int0,
+            int0,
+        })
+    }
+
+    fn normal(self) -> EspcRobust
+        ensures { result ≡ normal_of self.k0 self.k1 self.dist }
+    {
+        let a = -2.0 * self.dist * self.k1;
+        let b = -1.0 - 2.0 * self.dist * self.k0;
+        let int0 = espc_int_approx(b);
+        let int1 = espc_int_approx(a + b);
+        EspcRobust::Normal(Espc {
+            a,
+            b,
+            integral: int1 - int0,
+            int0,
+        })
+    }
+
+    fn robust(self) -> EspcRobust
+        ensures { result ≡ robust_of self.k0 self.k1 self.dist }
+    {
+        if maths::abs(self.k1) < K1_THRESH {
+            EspcRobust::LowK1
+        } else if maths::abs(self.dist) < DIST_THRESH {
+            self.low_dist()
+        } else {
+            self.normal()
         }
     }
-    let scaled = n_frac(robust, k0, k1, dist) * scale_multiplier(scale, chord, ch);
-    maths::clamp(maths::ceil(scaled), 1.0, 100.0)
+
+    // The number of lines over the multiplier.
+    fn n_frac(self, robust: EspcRobust) -> f32
+        ensures { result ≡ n_frac_of robust self.k0 self.k1 self.dist }
+    {
+        match robust {
+            EspcRobust::LowK1 => integrand(self.k0 + 0.5 * self.k1, self.dist),
+            EspcRobust::LowDist(e) => (2.0 / 3.0) * e.integral / e.a,
+            EspcRobust::Normal(e) => {
+                e.integral * integrand(self.k0 - self.k1 * e.b / e.a, self.dist) / e.a
+            }
+        }
+    }
+
+    // The number of lines, which may be a NaN. Most straight segments are one line, and no root is taken to find that.
+    fn line_count(self, robust: EspcRobust, scale: f32, chord: f32, ch: f32) -> f32
+        ensures { result ≡ clamp_of (ceil_of (n_frac_of robust self.k0 self.k1 self.dist ⊗ multiplier_of scale chord ch)) (whole 1) (whole 100) }
+    {
+        if let EspcRobust::LowK1 = robust {
+            let k = self.k0 + 0.5 * self.k1;
+            if is_straight(k * (k * self.dist + 1.0), scale * chord / (ch * TOL)) {
+                return 1.0;
+            }
+        }
+        let scaled = self.n_frac(robust) * scale_multiplier(scale, chord, ch);
+        maths::clamp(maths::ceil(scaled), 1.0, 100.0)
+    }
 }
 
 // The spiral of the range from p0 to p1.
@@ -199,12 +219,14 @@ pub fn fit_range(offset: f32, scale: f32, p0: Vec2, p1: Vec2, params: CubicParam
     ensures { result ≡ fit_of offset scale p0 p1 params }
 {
     let euler = EulerParams::from_angles(params.th0, params.th1);
-    let k1 = euler.k1;
-    let k0 = euler.k0 - 0.5 * k1;
     let normalized = offset / params.chord_len;
-    let dist = normalized * euler.ch;
-    let robust = robust_of(k0, k1, dist);
-    let n = line_count(robust, k0, k1, dist, scale, params.chord_len, euler.ch);
+    let bend = Bend {
+        k0: euler.k0 - 0.5 * euler.k1,
+        k1: euler.k1,
+        dist: normalized * euler.ch,
+    };
+    let robust = bend.robust();
+    let n = bend.line_count(robust, scale, params.chord_len, euler.ch);
     let seg = EulerSeg::from_params(p0, p1, euler);
     Fit {
         seg,
@@ -220,13 +242,11 @@ fn spread(robust: EspcRobust, t: f32) -> f32
 {
     match robust {
         EspcRobust::LowK1 => t,
-        EspcRobust::LowDist(a, b, integral, int0) => {
-            let c = maths::cbrt(integral * t + int0);
-            (c * maths::abs(c) - b) / a
+        EspcRobust::LowDist(e) => {
+            let c = maths::cbrt(e.integral * t + e.int0);
+            (c * maths::abs(c) - e.b) / e.a
         }
-        EspcRobust::Normal(a, b, integral, int0) => {
-            (espc_int_inv_approx(integral * t + int0) - b) / a
-        }
+        EspcRobust::Normal(e) => (espc_int_inv_approx(e.integral * t + e.int0) - e.b) / e.a,
     }
 }
 

@@ -1,6 +1,6 @@
 // A cubic, or the curve at an offset from it, as lines: it is cut into ranges that are each near a spiral, and a range
 // is 1 to 100 lines.
-#![tactic(auto)]
+#![tactic(auto, unfolding(crate::specs::Curve::line_of, crate::specs::Curve::range_of, crate::specs::Curve::range_end, crate::specs::Curve::part, crate::specs::Curve::is_point, crate::specs::Curve::side_events, crate::specs::Curve::device_side, crate::specs::Curve::local_side, crate::specs::Curve::euler_events, drawing::proofs::Floats::of_bits, drawing::proofs::Floats::round, drawing::proofs::Floats::div))]
 
 mod fit;
 mod straight;
@@ -12,7 +12,7 @@ ghost use Rattle.laws.specs.Binary32.{◌⊗◌, dec};
 ghost use Rattle.drawing.specs.Page.{Drew};
 ghost use Rattle.curve.specs.Curve.{line_of, lines_of, range_of, range_end, part, front_of, walk, is_point, side_events, device_side, local_side, euler_events};
 
-use drawing::line::{Ink, no_count, output_line_with_transform, stopped};
+use drawing::line::{Nib, Stopped, no_count, output_line_with_transform};
 use fit::{Fit, Tip, first_tip, fit_range, params_of, place, tip_at};
 use spiral::euler::TOL;
 use spiral::util::{Vec2, apply, identity};
@@ -32,60 +32,53 @@ struct Side {
 }
 
 // A line of a side, which runs back unless the offset is 0 or more.
-fn side_line(lines: &mut [u32], ink: Ink, path: u32, side: Side, p: Vec2, q: Vec2) -> Ink
-    ensures { Drew path lines.old ink (line_of side p q ∷ []) lines.new result }
+fn side_line(lines: &mut [u32], nib: Nib, side: Side, p: Vec2, q: Vec2) -> Result<Nib, Stopped>
+    ensures { Drew lines.old nib (line_of side p q ∷ []) lines.new result }
 {
     let transform = side.transform;
     if side.offset >= 0.0 {
-        return output_line_with_transform(lines, ink, path, p, q, transform);
+        return output_line_with_transform(lines, nib, p, q, transform);
     }
-    output_line_with_transform(lines, ink, path, q, p, transform)
+    output_line_with_transform(lines, nib, q, p, transform)
 }
 
 // The n lines of a range: all but the last end along the spiral.
 fn range_lines(
     lines: &mut [u32],
-    ink: Ink,
-    path: u32,
+    nib: Nib,
     side: Side,
     fit: Fit,
     n: u32,
     at: Vec2,
     end: Vec2,
-) -> Ink
-    ensures { Drew path lines.old ink (lines_of side fit (n - 1) 1 at end) lines.new result }
+) -> Result<Nib, Stopped>
+    ensures { Drew lines.old nib (lines_of side fit (n - 1) 1 at end) lines.new result }
 {
-    let mut so = ink;
+    let mut nib = nib;
     let mut lp0 = at;
-    let mut i: u32 = 1;
-    while i < n {
-        if stopped(so) {
-            return so;
-        }
+    for i in 1..n {
         let lp1 = place(fit, i);
-        so = side_line(lines, so, path, side, lp0, lp1);
+        nib = side_line(lines, nib, side, lp0, lp1)?;
         lp0 = lp1;
-        i += 1;
     }
-    side_line(lines, so, path, side, lp0, end)
+    side_line(lines, nib, side, lp0, end)
 }
 
 fn draw_range(
     lines: &mut [u32],
-    ink: Ink,
-    path: u32,
+    nib: Nib,
     side: Side,
     fit: Fit,
     at: Vec2,
     end: Vec2,
-) -> Ink
-    ensures { Drew path lines.old ink (range_of side fit at end) lines.new result }
+) -> Result<Nib, Stopped>
+    ensures { Drew lines.old nib (range_of side fit at end) lines.new result }
 {
     let n = fit.n;
     if maths::is_nan(n) {
-        return no_count(ink);
+        return no_count(nib);
     }
-    range_lines(lines, ink, path, side, fit, maths::to_u32(n), at, end)
+    range_lines(lines, nib, side, fit, maths::to_u32(n), at, end)
 }
 
 // The last range ends at the given end, which is not evaluated.
@@ -102,37 +95,32 @@ fn range_end(side: Side, fit: Fit, to: Tip) -> Vec2
 fn accepts(err: f32, scale: f32, dt: f32) -> bool
     ensures { result ≡ le (err ⊗ scale) (dec 25 2) || le dt (part 1) }
 {
-    if err * scale <= TOL {
-        return true;
-    }
-    dt <= SUBDIV_LIMIT
+    err * scale <= TOL || dt <= SUBDIV_LIMIT
 }
 
 // The ranges of a side, from the tip where the first one starts. A range starts at t0_u * dt and is dt long, and dt does
 // not fall below 1/65536.
-fn walk_side(lines: &mut [u32], ink: Ink, path: u32, side: Side, first: Tip) -> Ink
-    ensures { Drew path lines.old ink (flatten (walk side 16 0 (front_of first side.start)).ranges) lines.new result }
+fn walk_side(lines: &mut [u32], nib: Nib, side: Side, first: Tip) -> Result<Nib, Stopped>
+    ensures { Drew lines.old nib (flatten (walk side 16 0 (front_of first side.start)).ranges) lines.new result }
 {
     let points = side.points;
-    let mut so = ink;
+    let mut nib = nib;
     let mut last = first;
     let mut lp0 = side.start;
     let mut t0_u: u32 = 0;
     let mut dt: f32 = 1.0;
+    // No range and no iterator: the step halves and grows again as it goes.
     loop {
         let t0 = maths::from_u32(t0_u) * dt;
         if t0 == 1.0 {
-            return so;
-        }
-        if stopped(so) {
-            return so;
+            return Ok(nib);
         }
         let to = tip_at(points, t0 + dt);
         let params = params_of(last, to, side.scale);
         if accepts(params.err, side.scale, dt) {
             let fit = fit_range(side.offset, side.scale, last.p, to.p, params);
             let end = range_end(side, fit, to);
-            so = draw_range(lines, so, path, side, fit, lp0, end);
+            nib = draw_range(lines, nib, side, fit, lp0, end)?;
             last = to;
             lp0 = end;
             // The trailing zeros are the halves that end here: the next range is as much longer.
@@ -151,28 +139,21 @@ fn is_point(points: [Vec2; 4]) -> bool
     ensures { result ≡ is_point points }
 {
     let p0 = points[0];
-    if p0.eq(points[1]) {
-        if p0.eq(points[2]) {
-            return p0.eq(points[3]);
-        }
-    }
-    false
+    p0 == points[1] && p0 == points[2] && p0 == points[3]
 }
 
-fn draw_side(lines: &mut [u32], ink: Ink, path: u32, side: Side) -> Ink
-    ensures { Drew path lines.old ink (side_events side) lines.new result }
+fn draw_side(lines: &mut [u32], nib: Nib, side: Side) -> Result<Nib, Stopped>
+    ensures { Drew lines.old nib (side_events side) lines.new result }
 {
     let points = side.points;
     if is_point(points) {
-        return ink;
+        return Ok(nib);
     }
     let first = first_tip(points);
-    if looks_straight(points) {
-        if is_line(first, tip_at(points, 1.0), side.offset, side.scale) {
-            return side_line(lines, ink, path, side, side.start, side.end);
-        }
+    if looks_straight(points) && is_line(first, tip_at(points, 1.0), side.offset, side.scale) {
+        return side_line(lines, nib, side, side.start, side.end);
     }
-    walk_side(lines, ink, path, side, first)
+    walk_side(lines, nib, side, first)
 }
 
 // In device space, with no use of the given ends. The identity is applied to each line all the same.
@@ -216,20 +197,19 @@ fn local_side(cubic: [Vec2; 4], transform: [f32; 6], offset: f32, start: Vec2, e
 // Offset 0 or -0 is drawn in device space.
 pub fn flatten_euler(
     lines: &mut [u32],
-    ink: Ink,
-    path: u32,
+    nib: Nib,
     cubic: [Vec2; 4],
     transform: [f32; 6],
     offset: f32,
     start: Vec2,
     end: Vec2,
-) -> Ink
-    ensures { Drew path lines.old ink (euler_events cubic transform offset start end) lines.new result }
+) -> Result<Nib, Stopped>
+    ensures { Drew lines.old nib (euler_events cubic transform offset start end) lines.new result }
 {
     if offset == 0.0 {
         let side = device_side(cubic, transform, offset);
-        return draw_side(lines, ink, path, side);
+        return draw_side(lines, nib, side);
     }
     let side = local_side(cubic, transform, offset, start, end);
-    draw_side(lines, ink, path, side)
+    draw_side(lines, nib, side)
 }

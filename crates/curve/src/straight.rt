@@ -1,4 +1,6 @@
 // Whether a whole side is one line, told by the slopes of its tangents, without an angle or a root: see specs/OneLine.antt.
+#![tactic(auto, unfolding(crate::specs::OneLine::share_of, crate::specs::OneLine::room_of, crate::specs::OneLine::steep_of, crate::specs::OneLine::is_along, crate::specs::OneLine::are_along, crate::specs::OneLine::is_line, drawing::proofs::Floats::of_bits, drawing::proofs::Floats::round, drawing::proofs::Floats::div))]
+
 ghost use Rattle.std.specs.Prelude.{◌≡◌};
 ghost use Rattle.curve.specs.OneLine.{share_of, room_of, steep_of, is_along, are_along, is_line};
 
@@ -52,12 +54,7 @@ fn is_along(steep: f32, squared: f32, h: Vec2) -> bool
     ensures { result ≡ is_along steep squared h }
 {
     let x = h.x;
-    if 0.0 < x {
-        if maths::abs(h.y) / x < steep {
-            return x <= squared;
-        }
-    }
-    false
+    0.0 < x && maths::abs(h.y) / x < steep && x <= squared
 }
 
 // Of both tangents: the one at the start turns the other way round.
@@ -82,20 +79,17 @@ fn are_along(steep: f32, squared: f32, c: Vec2, q0: Vec2, q1: Vec2) -> bool
 pub(crate) fn is_line(from: Tip, to: Tip, offset: f32, scale: f32) -> bool
     ensures { result ≡ is_line from to offset scale }
 {
-    let c = to.p.sub(from.p);
+    let c = to.p - from.p;
     let squared = c.length_squared();
-    if 1.0 <= squared {
-        if maths::abs(offset) <= 256.0 {
-            return are_along(steepest(room(scale), squared), squared, c, from.q, to.q);
-        }
-    }
-    false
+    1.0 <= squared
+        && maths::abs(offset) <= 256.0
+        && are_along(steepest(room(scale), squared), squared, c, from.q, to.q)
 }
 
 // A first look, by one control point: most curves are told from lines by it, and are not looked at closer.
 pub(crate) fn looks_straight(points: [Vec2; 4]) -> bool {
     let p0 = points[0];
-    let q = points[1].sub(p0);
-    let c = points[3].sub(p0);
+    let q = points[1] - p0;
+    let c = points[3] - p0;
     maths::abs(q.y * c.x - q.x * c.y) <= 0.0009765625 * (q.x * c.x + q.y * c.y)
 }

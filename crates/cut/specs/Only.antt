@@ -3,11 +3,9 @@ use Rattle.std.specs.Prelude.{ℕ, ◌≡◌, List}
 use Rattle.std.proofs.Common.{◌∙◌, sym}
 use Rattle.laws.specs.Only.{Only, determined}
 use Rattle.hpgl.specs.declared.Table.{Table}
-use Rattle.cut.specs.Sheet.{laid, lay_of}
-use Rattle.cut.specs.Stages.{stage_of, report_of, left, gone, cut_of}
-use Rattle.cut.specs.declared.sheet.Laid.{Laid}
+use Rattle.cut.specs.Sheet.{Laid, laid, lay_of}
+use Rattle.cut.specs.Stages.{Answer, stage_of, report_of, left, gone, cut_of}
 use Rattle.cut.specs.declared.Stage.{Stage}
-use Rattle.cut.specs.declared.Answer.{Answer}
 use Rattle.cut.specs.declared.Report.{Report}
 
 pub number_only : (stage : Stage) → Only (λ r. r ≡ stage_of stage)

@@ -1,9 +1,7 @@
 -- The sheet of one path: its tags, its points, one transform and one fill style, and the room that it takes. Definitions only.
-use Rattle.std.specs.Prelude.{ℕ, zero, suc, ◌+◌, ◌*◌, ◌/◌, ◌^◌, Bool, ◌&&◌, cond, List, [], ◌∷◌, ◌++◌, ltb, leb, length, get_or, drop}
+use Rattle.std.specs.Prelude.{ℕ, zero, suc, ◌+◌, ◌*◌, ◌/◌, ◌^◌, Bool, ◌&&◌, cond, List, [], ◌∷◌, ◌++◌, ltb, leb, length, get_or, drop, Option, Some, None, Result, Ok, Err}
 use Rattle.flatten.specs.declared.call.Layout.{Layout}
-use Rattle.cut.specs.declared.sheet.Six.{Six}
-use Rattle.cut.specs.declared.sheet.Laid.{Laid}
-use Rattle.cut.specs.declared.sheet.Laid.TheVariants.{Sheet, NoRoom}
+use Rattle.svg.specs.declared.hand.Six.{Six}
 
 -- ---- its words
 
@@ -54,6 +52,10 @@ layout_of n m = layout_by (tag_words n) m
 unfoldable pub size_of : ℕ → ℕ → ℕ
 size_of n m = tag_words n + m + 8
 
+-- where they are less than 2^31
+unfoldable pub small_size : ℕ → ℕ → Option ℕ
+small_size n m = cond (ltb (size_of n m) (2 ^ 31)) (Some (size_of n m)) None
+
 -- 0 where they are 2^31 or more
 unfoldable pub size_told : ℕ → ℕ → ℕ
 size_told n m = cond (ltb (size_of n m) (2 ^ 31)) (size_of n m) 0
@@ -61,7 +63,11 @@ size_told n m = cond (ltb (size_of n m) (2 ^ 31)) (size_of n m) 0
 unfoldable pub fits : ℕ → ℕ → ℕ → Bool
 fits n m room = ltb (size_of n m) (2 ^ 31) && leb (size_of n m) room
 
--- where it stands or what it lacks, and the scene afterwards
+-- where its parts stand, or how many words it takes
+abbrev pub Laid : Type 0
+Laid = Result Layout ℕ
+
+-- the answer, and the scene afterwards
 pub record Lay : Type 0 where
   pub answer : Laid
   pub scene : List ℕ
@@ -72,5 +78,5 @@ laid r scene = record { answer = r; scene = scene }
 unfoldable pub lay_of : List ℕ → List ℕ → List ℕ → List ℕ → Lay
 lay_of drawn points six scene =
     cond (fits (length drawn) (length points) (length scene))
-    (laid (Sheet (layout_of (length drawn) (length points))) (sheet_of drawn points six ++ drop (size_of (length drawn) (length points)) scene))
-    (laid (NoRoom (size_told (length drawn) (length points))) scene)
+    (laid (Ok (layout_of (length drawn) (length points))) (sheet_of drawn points six ++ drop (size_of (length drawn) (length points)) scene))
+    (laid (Err (size_told (length drawn) (length points))) scene)

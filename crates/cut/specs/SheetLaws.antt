@@ -1,8 +1,8 @@
 -- The words of the sheet, one by one, and a loop that writes them. Assumes nothing.
 use Prim.Native.Nat.{ℕ, zero, suc, ◌+◌, ◌^◌, ◌<◌, ◌≤◌}
-use Rattle.std.specs.Prelude.{◌≡◌, ◌⊎◌, true, false, length, take, drop, set}
-use Rattle.std.proofs.Math.Path.{refl, sym, ap}
-use Rattle.std.proofs.Common.{◌∙◌, inl, inr, add-one, length-drop, take-suc, drop-cons, take_all, length-take-le}
+use Rattle.std.specs.Prelude.{◌≡◌, Bool, true, false, cond, length, take, drop, set, Option, Some, None, Ok, Err}
+use Rattle.std.proofs.Math.Path.{refl, sym, ap, subst}
+use Rattle.std.proofs.Common.{◌∙◌, add-one, length-drop, take-suc, drop-cons, take_all, length-take-le}
 use mathlib.Core.List.{List, [], ◌∷◌, ◌++◌, append_assoc}
 use native.Mathlib.Omega.{arith}
 use Rattle.std.proofs.Math.Decide.{ℕ_discrete, dec_lt}
@@ -10,8 +10,7 @@ use Rattle.std.proofs.Math.ListN.{get_or, length-append, get_or-append, get_or-e
 use Rattle.std.proofs.lemmas.List.{set_at}
 use Rattle.std.proofs.Math.Seq.{get_or-append_seam, get_or-append-add}
 use borrow.Author.Tests.{lt-ltb, le-ltb, le-leb, lt-leb}
-use Rattle.cut.specs.Sheet.{tag_bytes, tag_word, packed, groups, tag_words, fill_style, layout_of, sheet_of, size_of, size_told, fits, laid, lay_of}
-use Rattle.cut.specs.declared.sheet.Laid.TheVariants.{Sheet, NoRoom}
+use Rattle.cut.specs.Sheet.{tag_bytes, tag_word, packed, groups, tag_words, fill_style, layout_of, sheet_of, size_of, small_size, size_told, fits, laid, lay_of}
 
 -- ---- a tag
 
@@ -116,6 +115,12 @@ module _ (s ws₀ : List ℕ) (room : length s ≤ length ws₀) where
 
 -- ---- how large it is
 
+some_same : (a b : ℕ) → Some a ≡ Some b → a ≡ b
+some_same a b e = cc
+
+not_some : (a : ℕ) → ◌≡◌ {A = Option ℕ} None (Some a) → ⊥
+not_some a e = let z : ◌≡◌ {A = ℕ} 0 1 = cc in omega arith
+
 module _ (n m : ℕ) where
   pub told_small : size_of n m < 2 ^ 31 → size_of n m ≡ size_told n m
   unfolding size_told
@@ -138,28 +143,29 @@ module _ (n m : ℕ) where
   unfolding size_of
   many_points l = omega arith
 
-  -- what is told, where it is not 0
-  pub told_is : (size : ℕ) → size ≡ size_told n m → (size ≡ 0 → ⊥) → (size ≡ size_of n m) × (size < 2 ^ 31)
-  told_is size e ne =
+  pub small_some : (size : ℕ) → small_size n m ≡ Some size → (size ≡ size_of n m) × (size < 2 ^ 31)
+  unfolding small_size
+  small_some size e =
       elim (dec_lt (size_of n m) (2 ^ 31)) [
-        | yes l ↦ let is = e ∙ sym (told_small l) in (is, omega (arith, is, l))
-        | no g ↦ absurd (ne (e ∙ sym (told_large (omega (arith, g)))))
+        | yes l ↦ let is = some_same _ _ (sym (ap (λ (b : Bool). cond b (Some (size_of n m)) None) (lt-ltb _ _ l)) ∙ e) in (sym is, subst (λ (k : ℕ). k < 2 ^ 31) is l)
+        | no g ↦ absurd (not_some size (sym (ap (λ (b : Bool). cond b (Some (size_of n m)) None) (le-ltb (size_of n m) (2 ^ 31) (omega (arith, g)))) ∙ e))
       ]
 
-  told_none : (size : ℕ) → size ≡ size_told n m → size ≡ 0 → 2 ^ 31 ≤ size_of n m
-  unfolding size_of
-  told_none size e z =
+  pub small_none : small_size n m ≡ None → 2 ^ 31 ≤ size_of n m
+  unfolding small_size
+  small_none e =
       elim (dec_lt (size_of n m) (2 ^ 31)) [
-        | yes l ↦ let is = sym z ∙ e ∙ sym (told_small l) in absurd (omega (arith, is))
+        | yes l ↦ absurd (not_some (size_of n m) (sym e ∙ ap (λ (b : Bool). cond b (Some (size_of n m)) None) (lt-ltb _ _ l)))
         | no g ↦ omega (arith, g)
       ]
 
-  no_room_lem : (room size : ℕ) → size ≡ size_told n m → (size ≡ 0) ⊎ (room < size) → fits n m room ≡ false
+  none_fits : (room : ℕ) → 2 ^ 31 ≤ size_of n m → fits n m room ≡ false
   unfolding fits
-  no_room_lem room size e (inl z) = rw (le-ltb (size_of n m) (2 ^ 31) (told_none size e z))
-  no_room_lem room size e (inr l) =
-      let is = told_is size e (λ z. absurd (omega (arith, l, z))) in
-      rw (lt-ltb (size_of n m) (2 ^ 31) (omega (arith, is.0, is.1)), lt-leb (size_of n m) room (omega (arith, is.0, l)))
+  none_fits room h = rw (le-ltb (size_of n m) (2 ^ 31) h)
+
+  no_room_lem : (room size : ℕ) → size ≡ size_of n m → size < 2 ^ 31 → room < size → fits n m room ≡ false
+  unfolding fits
+  no_room_lem room size e l h = rw (lt-ltb (size_of n m) (2 ^ 31) (omega (arith, e, l)), lt-leb (size_of n m) room (omega (arith, e, h)))
 
   has_room_lem : (room size : ℕ) → size ≡ size_of n m → size < 2 ^ 31 → size ≤ room → fits n m room ≡ true
   unfolding fits
@@ -168,11 +174,15 @@ module _ (n m : ℕ) where
 -- ---- the answer
 
 module _ (drawn points six scene : List ℕ) (size : ℕ) where
-  pub no_sheet_lem : size ≡ size_told (length drawn) (length points) → (size ≡ 0) ⊎ (length scene < size) → laid (NoRoom size) scene ≡ lay_of drawn points six scene
+  pub too_large : 2 ^ 31 ≤ size_of (length drawn) (length points) → laid (Err 0) scene ≡ lay_of drawn points six scene
   unfolding lay_of
-  no_sheet_lem e h = rw (no_room_lem (length drawn) (length points) (length scene) size e h, e)
+  too_large h = rw (none_fits (length drawn) (length points) (length scene) h, told_large (length drawn) (length points) h)
+
+  pub no_sheet_lem : size ≡ size_of (length drawn) (length points) → size < 2 ^ 31 → length scene < size → laid (Err size) scene ≡ lay_of drawn points six scene
+  unfolding lay_of
+  no_sheet_lem e l h = rw (no_room_lem (length drawn) (length points) (length scene) size e l h, e, told_small (length drawn) (length points) (omega (arith, e, l)))
 
   pub a_sheet : size ≡ size_of (length drawn) (length points) → size < 2 ^ 31 → size ≤ length scene
-      → laid (Sheet (layout_of (length drawn) (length points))) (sheet_of drawn points six ++ drop size scene) ≡ lay_of drawn points six scene
+      → laid (Ok (layout_of (length drawn) (length points))) (sheet_of drawn points six ++ drop size scene) ≡ lay_of drawn points six scene
   unfolding lay_of
   a_sheet e l h = rw (has_room_lem (length drawn) (length points) (length scene) size e l h, e)

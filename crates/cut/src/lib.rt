@@ -2,7 +2,7 @@
 #![tactic(auto)]
 
 ghost use Rattle.std.specs.Prelude.{◌≡◌};
-ghost use Rattle.cut.specs.Stages.{stage_of, report_of};
+ghost use Rattle.cut.specs.Stages.{stage_of, refusal, report_of};
 
 pub mod sheet;
 pub mod way;
@@ -18,12 +18,12 @@ pub enum Stage {
     Export,
 }
 
+// Why a call is refused: the stage, the number of its refusal, and the place in that stage's own terms.
 #[derive(Clone, Copy)]
-pub enum Answer {
-    // How many bytes the file has.
-    Whole(usize),
-    // The stage, the number of its refusal, and the place in that stage's own terms.
-    Refused(Stage, u32, u64),
+pub struct Refused {
+    pub stage: Stage,
+    pub number: u32,
+    pub at: u64,
 }
 
 // An answer in numbers: 0 or the refusal's, its stage and place, and how many bytes the file has.
@@ -37,6 +37,7 @@ pub struct Report {
 
 impl Stage {
     // No other place assigns these numbers.
+    #[tactic(auto, unfolding(crate::specs::Stages::stage_of))]
     pub fn number(self) -> u32
         ensures { result ≡ stage_of self }
     {
@@ -49,23 +50,35 @@ impl Stage {
             Stage::Export => 6,
         }
     }
+
+    pub(crate) fn refused(self, number: u32, at: u64) -> Refused
+        ensures { result ≡ refusal self number at }
+    {
+        Refused {
+            stage: self,
+            number,
+            at,
+        }
+    }
 }
 
-impl Answer {
-    pub fn report(self) -> Report
-        ensures { result ≡ report_of self }
-    {
-        match self {
-            Answer::Whole(bytes) => Report {
+// Of so many bytes, or of a refusal.
+impl From<Result<usize, Refused>> for Report {
+    ghost from_gives = { λ a t. t ≡ report_of a };
+
+    #[tactic(auto, unfolding(crate::specs::Stages::report_of))]
+    fn from(answer: Result<usize, Refused>) -> Report {
+        match answer {
+            Ok(bytes) => Report {
                 number: 0,
                 stage: 0,
                 at: 0,
                 bytes,
             },
-            Answer::Refused(stage, number, at) => Report {
-                number,
-                stage: stage.number(),
-                at,
+            Err(refused) => Report {
+                number: refused.number,
+                stage: refused.stage.number(),
+                at: refused.at,
                 bytes: 0,
             },
         }

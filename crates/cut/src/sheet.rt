@@ -1,26 +1,9 @@
 // The sheet of one path: its tags between a transform tag, a style tag and the path tag, its points, one transform, one fill style.
 ghost use Rattle.std.specs.Prelude.{◌≡◌, ◌++◌, ◌+◌, ◌≤◌, ◌<◌, ◌^◌, length, get_or, drop};
-ghost use Rattle.cut.specs.Sheet.{tag_bytes, tag_word, tag_words, six_of, fill_style, sheet_of, layout_by, size_of, size_told, laid, lay_of};
+ghost use Rattle.cut.specs.Sheet.{tag_bytes, tag_word, tag_words, six_of, fill_style, sheet_of, layout_by, size_of, small_size, laid, lay_of};
 
 use flatten::call::Layout;
-
-// The words of a transform: a, b, c, d, e, f take (x, y) to (a*x + c*y + e, b*x + d*y + f).
-#[derive(Clone, Copy)]
-pub struct Six {
-    pub a: u32,
-    pub b: u32,
-    pub c: u32,
-    pub d: u32,
-    pub e: u32,
-    pub f: u32,
-}
-
-// Where the sheet stands; or how many words it takes, where so many are not lent. None is told of 2^31 or more.
-#[derive(Clone, Copy)]
-pub enum Laid {
-    Sheet(Layout),
-    NoRoom(usize),
-}
+use svg::hand::Six;
 
 // Tag i: behind the path tag zeros.
 fn tag_byte(tags: &[u8], i: usize) -> u8
@@ -78,47 +61,55 @@ fn tail_word(six: Six, i: usize) -> u32
     }
 }
 
-fn sheet_word(tags: &[u8], points: &[u32], six: Six, k: usize) -> u32
-    requires { (k < 2 ^ 31) × (size_of (length tags.now) (length points.now) < 2 ^ 31) }
-    ensures { result ≡ get_or (sheet_of tags.now points.now (six_of six)) k 0 }
-{
-    let words = tag_words(tags.len());
-    if k < words {
-        return tag_word(tags, k);
-    }
-    let j = k - words;
-    if j < points.len() {
-        return points[j];
-    }
-    tail_word(six, j - points.len())
+// What a sheet is made of.
+#[derive(Clone, Copy)]
+struct Source<'a> {
+    tags: &'a [u8],
+    points: &'a [u32],
+    six: Six,
 }
 
-fn write_sheet(tags: &[u8], points: &[u32], six: Six, size: usize, scene: &mut [u32])
-    requires { (size ≡ size_of (length tags.now) (length points.now)) × (size < 2 ^ 31) × (size ≤ length scene.old) }
-    ensures { scene.new ≡ sheet_of tags.now points.now (six_of six) ++ drop size scene.old }
-{
-    let mut k: usize = 0;
-    while k < size {
-        scene[k] = sheet_word(tags, points, six, k);
-        k += 1;
+impl Source<'_> {
+    fn word(self, k: usize) -> u32
+        requires { (k < 2 ^ 31) × (size_of (length self.tags.now) (length self.points.now) < 2 ^ 31) }
+        ensures { let s = self.entry in result ≡ get_or (sheet_of s.tags.now s.points.now (six_of s.six)) k 0 }
+    {
+        let words = tag_words(self.tags.len());
+        if k < words {
+            return tag_word(self.tags, k);
+        }
+        let j = k - words;
+        if j < self.points.len() {
+            return self.points[j];
+        }
+        tail_word(self.six, j - self.points.len())
+    }
+
+    fn write(self, size: usize, scene: &mut [u32])
+        requires { (size ≡ size_of (length self.tags.now) (length self.points.now)) × (size < 2 ^ 31) × (size ≤ length scene.old) }
+        ensures { let s = self.entry in scene.new ≡ sheet_of s.tags.now s.points.now (six_of s.six) ++ drop size scene.old }
+    {
+        for k in 0..size {
+            scene[k] = self.word(k);
+        }
     }
 }
 
-// How many words the sheet takes; 0 where they are 2^31 or more.
-fn size_of(n: usize, m: usize) -> usize
-    ensures { result ≡ size_told n m }
+// How many words the sheet takes. None is told of 2^31 or more.
+fn size_of(n: usize, m: usize) -> Option<usize>
+    ensures { result ≡ small_size n m }
 {
     if n >= 0x2_0000_0000 {
-        return 0;
+        return None;
     }
     if m >= 0x8000_0000 {
-        return 0;
+        return None;
     }
     let size = tag_words(n) + m + 8;
     if size >= 0x8000_0000 {
-        return 0;
+        return None;
     }
-    size
+    Some(size)
 }
 
 // Where the parts of a sheet begin whose tags take so many words and which has m words of points.
@@ -135,19 +126,19 @@ fn layout_of(words: usize, m: usize) -> Layout
     }
 }
 
-// Writes the sheet in front of the scene, where it has room.
-pub fn lay(tags: &[u8], points: &[u32], six: Six, scene: &mut [u32]) -> Laid
+// Writes the sheet in front of the scene, where it has room, and tells where its parts stand. Else it tells how many words the
+// sheet takes, and 0 of 2^31 or more.
+pub fn lay(tags: &[u8], points: &[u32], six: Six, scene: &mut [u32]) -> Result<Layout, usize>
     ensures { laid result scene.new ≡ lay_of tags.now points.now (six_of six) scene.old }
 {
     let n = tags.len();
     let m = points.len();
-    let size = size_of(n, m);
-    if size == 0 {
-        return Laid::NoRoom(0);
-    }
+    let Some(size) = size_of(n, m) else {
+        return Err(0);
+    };
     if scene.len() < size {
-        return Laid::NoRoom(size);
+        return Err(size);
     }
-    write_sheet(tags, points, six, size, scene);
-    Laid::Sheet(layout_of(tag_words(n), m))
+    Source { tags, points, six }.write(size, scene);
+    Ok(layout_of(tag_words(n), m))
 }

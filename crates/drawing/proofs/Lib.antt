@@ -1,3 +1,3 @@
-pub mod Bounds
+pub mod Floats
 pub mod Draw
 pub mod Chords

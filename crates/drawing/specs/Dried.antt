@@ -1,5 +1,5 @@
 -- A page dries to the sheet: events drawn with a box of floats leave what specs/Sheet.antt says, the box too, since floors and ceilings rise with the number. Assumes nothing.
-use Rattle.std.specs.Prelude.{ℕ, ◌≤◌, ◌≡◌, Bool, not, ◌||◌, List, [], ◌∷◌, T, ltb, ℤ, pos, negsuc, Float}
+use Rattle.std.specs.Prelude.{Ok, Err, ℕ, ◌≤◌, ◌≡◌, Bool, not, ◌||◌, List, [], ◌∷◌, T, ltb, ℤ, pos, negsuc, Float}
 use Rattle.std.proofs.Math.Path.{refl}
 use Rattle.std.proofs.Common.{sym, ap, ◌∙◌, subst, arith, nltb→le}
 use Rattle.std.proofs.Math.Bool.{true, false, cond}
@@ -8,14 +8,9 @@ use Rattle.std.specs.Float.Ieee.{lt, is_nan, to_signed}
 use Rattle.maths.specs.Numbers.{floor_of, ceil_of, lt_once, floor_rises, ceil_rises, floor_above, ceil_below}
 use Rattle.spiral.specs.declared.util.Vec2.{Vec2}
 use Rattle.spiral.specs.Util.{has_nan}
-use Rattle.drawing.specs.Sheet.{Event, line, no_count, no_join, lower_of, higher_of, empty_box, box_with, Sheet, sheet, has_room, stored, draw_on, draw, draw_all}
-use Rattle.drawing.specs.Page.{lesser_of, greater_of, empty_reach, reach_with, whole_box, dried_of, Page, inked, ink_on, ink_event, ink_all}
-use Rattle.drawing.specs.declared.line.IntBbox.{IntBbox}
-use Rattle.drawing.specs.declared.line.Pen.{Pen}
-use Rattle.drawing.specs.declared.line.Reach.{Reach}
+use Rattle.drawing.specs.Sheet.{IntBbox, Event, line, no_count, no_join, lower_of, higher_of, empty_box, box_with, Sheet, sheet, has_room, stored, draw_on, draw, draw_all}
+use Rattle.drawing.specs.Page.{Reach, lesser_of, greater_of, empty_reach, reach_with, whole_box, Ink, pen_of, dried_of, Page, inked, ink_on, ink_event, ink_all}
 use Rattle.drawing.specs.declared.line.Nib.{Nib}
-use Rattle.drawing.specs.declared.line.Ink.{Ink}
-use Rattle.drawing.specs.declared.line.Ink.TheVariants.{Flows, Stops}
 
 abbrev IsNumber : Float → Type 0
 IsNumber x = T (not (is_nan x))
@@ -30,7 +25,7 @@ same a b h k = let l = not_less a b h in let m = not_less b a k in omega arith
 clash : {A : Type 0} → true ≡ false → A
 clash e = let z : ◌≡◌ {A = ℕ} 0 1 = cc in absurd (omega arith)
 
-level : (i j : ℤ) → lt_z i j ≡ false → lt_z j i ≡ false → i ≡ j
+pub level : (i j : ℤ) → lt_z i j ≡ false → lt_z j i ≡ false → i ≡ j
 level (pos a) (pos b) h k = ap pos (same a b h k)
 level (pos a) (negsuc b) h k = clash k
 level (negsuc a) (pos b) h k = clash h
@@ -133,52 +128,59 @@ module _ (r : Reach) (p : Vec2) (c : Clean r) (d : Point p) where
       refl
 
 -- ---- one event
-abbrev pub Dries : Ink → Type 0
-Dries (Flows nib) = Clean nib.reach
-Dries (Stops why n) = T true
+
+-- a nib on the path, whose box takes numbers alone
+abbrev pub Dries : ℕ → Ink → Type 0
+Dries path (Ok nib) = (nib.path ≡ path) × Clean nib.reach
+Dries path (Err s) = T true
 
 abbrev pub dried_page : Page → Sheet
 dried_page s = sheet s.words (dried_of s.ink)
 
-abbrev pen_of : Nib → Pen
-pen_of nib = record { count = nib.count; tag = nib.tag; bbox = whole_box nib.reach }
-
-module _ (path : ℕ) (ws : List ℕ) (nib : Nib) (p q : Vec2) (c : Clean nib.reach) where
+module _ (ws : List ℕ) (nib : Nib) (p q : Vec2) (c : Clean nib.reach) where
   both_whole : Point p → Point q → whole_box (reach_with (reach_with nib.reach p) q) ≡ box_with (box_with (whole_box nib.reach) p) q
   both_whole h k = whole_with (reach_with nib.reach p) q (clean_with nib.reach p c h) k ∙ ap (λ (b : IntBbox). box_with b q) (whole_with nib.reach p c h)
 
-  line_dries : (s t u : Bool) → has_nan p ≡ s → has_nan q ≡ t → dried_page (inked s t u path ws nib p q) ≡ stored s t u path ws (pen_of nib) p q
-  unfolding inked stored dried_of
+  line_dries : (s t u : Bool) → has_nan p ≡ s → has_nan q ≡ t → dried_page (inked s t u ws nib p q) ≡ stored s t u nib.path ws (pen_of nib) p q
+  unfolding inked stored dried_of pen_of
   line_dries true t u h k = refl
   line_dries false true u h k = refl
   line_dries false false false h k = refl
   line_dries false false true h k = rw (both_whole (point p h) (point q k)) refl
 
-  line_clean : (s t u : Bool) → has_nan p ≡ s → has_nan q ≡ t → Dries (inked s t u path ws nib p q).ink
+  line_clean : (s t u : Bool) → has_nan p ≡ s → has_nan q ≡ t → Dries nib.path (inked s t u ws nib p q).ink
   unfolding inked
   line_clean true t u h k = tt
   line_clean false true u h k = tt
   line_clean false false false h k = tt
-  line_clean false false true h k = clean_with (reach_with nib.reach p) q (clean_with nib.reach p c (point p h)) (point q k)
+  line_clean false false true h k = (refl, clean_with (reach_with nib.reach p) q (clean_with nib.reach p c (point p h)) (point q k))
 
-event_dries : (path : ℕ) (ws : List ℕ) (d : Ink) (e : Event) → Dries d → dried_page (ink_event path ws d e) ≡ draw path ws (dried_of d) e
-unfolding ink_event ink_on draw draw_on dried_of
-event_dries path ws (Flows nib) (line p q) c = line_dries path ws nib p q c (has_nan p) (has_nan q) (has_room ws nib.count) refl refl
-event_dries path ws (Flows nib) no_count c = refl
-event_dries path ws (Flows nib) no_join c = refl
-event_dries path ws (Stops why n) e c = refl
+on_dries : (ws : List ℕ) (nib : Nib) (e : Event) → Clean nib.reach → dried_page (ink_on ws nib e) ≡ draw_on nib.path ws (pen_of nib) e
+unfolding ink_on draw_on dried_of pen_of
+on_dries ws nib (line p q) c = line_dries ws nib p q c (has_nan p) (has_nan q) (has_room ws nib.count) refl refl
+on_dries ws nib no_count c = refl
+on_dries ws nib no_join c = refl
 
-event_clean : (path : ℕ) (ws : List ℕ) (d : Ink) (e : Event) → Dries d → Dries (ink_event path ws d e).ink
-unfolding ink_event ink_on
-event_clean path ws (Flows nib) (line p q) c = line_clean path ws nib p q c (has_nan p) (has_nan q) (has_room ws nib.count) refl refl
-event_clean path ws (Flows nib) no_count c = tt
-event_clean path ws (Flows nib) no_join c = tt
-event_clean path ws (Stops why n) e c = tt
+on_clean : (ws : List ℕ) (nib : Nib) (e : Event) → Clean nib.reach → Dries nib.path (ink_on ws nib e).ink
+unfolding ink_on
+on_clean ws nib (line p q) c = line_clean ws nib p q c (has_nan p) (has_nan q) (has_room ws nib.count) refl refl
+on_clean ws nib no_count c = tt
+on_clean ws nib no_join c = tt
+
+event_dries : (path : ℕ) (ws : List ℕ) (d : Ink) (e : Event) → Dries path d → dried_page (ink_event ws d e) ≡ draw path ws (dried_of d) e
+unfolding ink_event draw dried_of
+event_dries path ws (Ok nib) e c = on_dries ws nib e c.1 ∙ ap (λ (k : ℕ). draw_on k ws (pen_of nib) e) c.0
+event_dries path ws (Err s) e c = refl
+
+event_clean : (path : ℕ) (ws : List ℕ) (d : Ink) (e : Event) → Dries path d → Dries path (ink_event ws d e).ink
+unfolding ink_event
+event_clean path ws (Ok nib) e c = subst (λ (k : ℕ). Dries k (ink_on ws nib e).ink) c.0 (on_clean ws nib e c.1)
+event_clean path ws (Err s) e c = tt
 
 -- ---- all events
-pub all_dries : (path : ℕ) (s : Page) (es : List Event) → Dries s.ink → dried_page (ink_all path s es) ≡ draw_all path (dried_page s) es
+pub all_dries : (path : ℕ) (s : Page) (es : List Event) → Dries path s.ink → dried_page (ink_all s es) ≡ draw_all path (dried_page s) es
 unfolding ink_all draw_all
 all_dries path s [] c = refl
 all_dries path s (e ∷ es) c =
-    all_dries path (ink_event path s.words s.ink e) es (event_clean path s.words s.ink e c)
+    all_dries path (ink_event s.words s.ink e) es (event_clean path s.words s.ink e c)
     ∙ ap (λ (z : Sheet). draw_all path z es) (event_dries path s.words s.ink e c)

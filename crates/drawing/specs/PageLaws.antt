@@ -1,122 +1,115 @@
 -- How drawings follow one another. Assumes nothing.
-use Rattle.std.specs.Prelude.{ℕ, ◌*◌, ◌≡◌, refl, Bool, true, false, cond, List, [], ◌∷◌, ◌++◌, length}
-use Rattle.std.proofs.Common.{ap, sym, ◌∙◌, arith}
+use Rattle.std.specs.Prelude.{ℕ, ◌*◌, ◌≡◌, refl, Bool, true, false, List, [], ◌∷◌, ◌++◌, Result, Ok, Err, length}
+use Rattle.std.proofs.Common.{ap, sym, ◌∙◌}
+use Rattle.std.specs.Result.{IsErrAnd}
 use Rattle.std.proofs.Math.Seq.{length-sets}
+use Rattle.std.proofs.lemmas.Result.{err_from_is_err_and}
 use Rattle.refusals.specs.Laws.{named, number_names}
 use Rattle.refusals.specs.declared.Refusal.{Refusal}
 use Rattle.spiral.specs.declared.util.Vec2.{Vec2}
 use Rattle.spiral.specs.Util.{has_nan}
-use Rattle.drawing.specs.Sheet.{Event, line, no_count, no_join, record_of, has_room}
-use Rattle.drawing.specs.Page.{Page, page, inked, ink_on, ink_event, ink_all, has_stopped, Told, told, told_of, Drew}
-use Rattle.drawing.specs.declared.line.Reach.{Reach}
+use Rattle.drawing.specs.Sheet.{Event, line, no_count, no_join, halt, record_of, has_room}
+use Rattle.drawing.specs.Page.{Reach, Ink, Page, page, inked, ink_on, ink_event, ink_all, Told, told, told_of, Drew}
 use Rattle.drawing.specs.declared.line.Nib.{Nib}
-use Rattle.drawing.specs.declared.line.Ink.{Ink}
-use Rattle.drawing.specs.declared.line.Ink.TheVariants.{Flows, Stops}
+use Rattle.drawing.specs.declared.line.Stopped.{Stopped}
 
 -- ---- what is told determines the answer
-answer : List Reach → ℕ → ℕ → ℕ → ℕ → Ink
-answer (b ∷ bs) number end n tag = Flows (record { count = n; tag = tag; reach = b })
-answer [] number end n tag = Stops (named number end) n
+answer : List Reach → Told → Ink
+answer (b ∷ bs) t = Ok (record { count = t.count; tag = t.tag; path = t.path; reach = b })
+answer [] t = halt (named t.number t.end) t.count
 
 page_in : Told → Page
-page_in t = page t.words (answer t.reach t.number t.end t.count t.tag)
+page_in t = page t.words (answer t.reach t)
 
 back : (ws : List ℕ) (d : Ink) → page_in (told ws d) ≡ page ws d
 unfolding page_in answer told
-back ws (Flows nib) = refl
-back ws (Stops why n) = ap (λ (w : Refusal). page ws (Stops w n)) (number_names why)
+back ws (Ok nib) = refl
+back ws (Err s) = ap (λ (w : Refusal). page ws (halt w s.count)) (number_names s.why)
 
 -- the contract, as an equation of pages, and back
-pub exact : {path : ℕ} {ws ws' : List ℕ} {d d' : Ink} {es : List Event} → Drew path ws d es ws' d' → page ws' d' ≡ ink_all path (page ws d) es
-exact {path} {ws} {ws'} {d} {d'} {es} h =
-    let s = ink_all path (page ws d) es in
-    sym (back ws' d') ∙ ap page_in h.is ∙ back s.words s.ink
+pub exact : {ws ws' : List ℕ} {nib : Nib} {r : Ink} {es : List Event} → Drew ws nib es ws' r → page ws' r ≡ ink_all (page ws (Ok nib)) es
+exact {ws} {ws'} {nib} {r} {es} h =
+    let s = ink_all (page ws (Ok nib)) es in
+    sym (back ws' r) ∙ ap page_in h.is ∙ back s.words s.ink
 
-pub drew : {path : ℕ} {ws ws' : List ℕ} {d d' : Ink} {es : List Event} → page ws' d' ≡ ink_all path (page ws d) es → Drew path ws d es ws' d'
+pub drew : {ws ws' : List ℕ} {nib : Nib} {r : Ink} {es : List Event} → page ws' r ≡ ink_all (page ws (Ok nib)) es → Drew ws nib es ws' r
 drew e = record { is = ap told_of e }
 
--- ---- a page that stopped
-absorbs : (path : ℕ) (ws : List ℕ) (d : Ink) (es : List Event) → has_stopped d ≡ true → page ws d ≡ ink_all path (page ws d) es
-unfolding ink_all ink_event has_stopped
-absorbs path ws d [] h = refl
-absorbs path ws (Flows nib) (e ∷ es) h = let z : ◌≡◌ {A = ℕ} 0 1 = cc in absurd (omega arith)
-absorbs path ws (Stops why n) (e ∷ es) h = absorbs path ws (Stops why n) es h
+-- ---- a page that stopped takes no more
+pub stays : (ws : List ℕ) (s : Stopped) (es : List Event) → page ws (Err s) ≡ ink_all (page ws (Err s)) es
+unfolding ink_all ink_event
+stays ws s [] = refl
+stays ws s (e ∷ es) = stays ws s es
 
-pub stays : {path : ℕ} {ws : List ℕ} {d : Ink} {es : List Event} → has_stopped d ≡ true → Drew path ws d es ws d
-stays {path} {ws} {d} {es} h = drew (absorbs path ws d es h)
-
-append : (path : ℕ) (s : Page) (xs ys : List Event) → ink_all path s (xs ++ ys) ≡ ink_all path (ink_all path s xs) ys
+append : (s : Page) (xs ys : List Event) → ink_all s (xs ++ ys) ≡ ink_all (ink_all s xs) ys
 unfolding ink_all
-append path s [] ys = refl
-append path s (x ∷ xs) ys = append path (ink_event path s.words s.ink x) xs ys
+append s [] ys = refl
+append s (x ∷ xs) ys = append (ink_event s.words s.ink x) xs ys
 
 -- ---- calls in a row
-pub nothing : {path : ℕ} {ws : List ℕ} {d : Ink} → Drew path ws d [] ws d
+pub nothing : {ws : List ℕ} {nib : Nib} → Drew ws nib [] ws (Ok nib)
 unfolding ink_all
 nothing = drew refl
 
 -- what a call left is drawn on by the next one
-pub then : {path : ℕ} {ws ws' ws'' : List ℕ} {d d' d'' : Ink} {xs ys : List Event} → Drew path ws d xs ws' d' → Drew path ws' d' ys ws'' d'' → Drew path ws d (xs ++ ys) ws'' d''
-then {path} {ws} {d = d} {xs = xs} {ys = ys} h k = drew (exact k ∙ ap (λ (s : Page). ink_all path s ys) (exact h) ∙ sym (append path (page ws d) xs ys))
+pub then : {ws ws' ws'' : List ℕ} {nib nib' : Nib} {r : Ink} {xs ys : List Event} → Drew ws nib xs ws' (Ok nib') → Drew ws' nib' ys ws'' r → Drew ws nib (xs ++ ys) ws'' r
+then {ws} {nib = nib} {xs = xs} {ys = ys} h k = drew (exact k ∙ ap (λ (s : Page). ink_all s ys) (exact h) ∙ sym (append (page ws (Ok nib)) xs ys))
+
+-- what `?` hands on
+pub passed : {A : Type 0} {r : Result A Stopped} {s : Stopped} → IsErrAnd r (λ (e : Stopped). e ≡ s) → r ≡ Err s
+passed {r = r} h = let p = err_from_is_err_and r h in p.1 ∙ ap (λ (e : Stopped). Err e) p.2
+
+-- a call that stopped is the last one
+pub stops : {ws ws' : List ℕ} {nib : Nib} {r : Ink} {s : Stopped} {xs : List Event} (ys : List Event) → Drew ws nib xs ws' (Err s) → IsErrAnd r (λ (e : Stopped). e ≡ s) → Drew ws nib (xs ++ ys) ws' r
+stops {ws} {ws'} {nib} {s = s} {xs = xs} ys h k =
+    drew (ap (page ws') (passed k) ∙ stays ws' s ys ∙ ap (λ (t : Page). ink_all t ys) (exact h) ∙ sym (append (page ws (Ok nib)) xs ys))
 
 -- the events of the code are those of the definition
-pub draws : {path : ℕ} {ws ws' : List ℕ} {d d' : Ink} {xs ys : List Event} → Drew path ws d xs ws' d' → xs ≡ ys → Drew path ws d ys ws' d'
-draws {path} {ws} {d = d} h e = drew (exact h ∙ ap (ink_all path (page ws d)) e)
-
-pub line_of : {p p' q q' : Vec2} → p ≡ p' → q ≡ q' → line p q ∷ [] ≡ line p' q' ∷ []
-line_of h k = cc
+pub draws : {ws ws' : List ℕ} {nib : Nib} {r : Ink} {xs ys : List Event} → Drew ws nib xs ws' r → xs ≡ ys → Drew ws nib ys ws' r
+draws {ws} {nib = nib} h e = drew (exact h ∙ ap (ink_all (page ws (Ok nib))) e)
 
 -- ---- a loop
 
 -- the events es₀, drawn where the loop begins, come to the same as the events es, drawn where it is now
-pub record Left (path : ℕ) (ws₀ : List ℕ) (d₀ : Ink) (es₀ : List Event) (ws : List ℕ) (d : Ink) (es : List Event) : Type 0 where
-  pub is : ink_all path (page ws d) es ≡ ink_all path (page ws₀ d₀) es₀
+pub record Left (ws₀ : List ℕ) (nib₀ : Nib) (es₀ : List Event) (ws : List ℕ) (nib : Nib) (es : List Event) : Type 0 where
+  pub is : ink_all (page ws (Ok nib)) es ≡ ink_all (page ws₀ (Ok nib₀)) es₀
 
-pub begin : {path : ℕ} {ws : List ℕ} {d : Ink} {es : List Event} → Left path ws d es ws d es
+pub begin : {ws : List ℕ} {nib : Nib} {es : List Event} → Left ws nib es ws nib es
 begin = record { is = refl }
 
-module _ {path : ℕ} {ws₀ ws ws' : List ℕ} {d₀ d d' : Ink} {es₀ es xs : List Event} where
-  -- a turn draws the first events of what is left
-  pub turn : {ys : List Event} → Left path ws₀ d₀ es₀ ws d es → es ≡ xs ++ ys → Drew path ws d xs ws' d' → Left path ws₀ d₀ es₀ ws' d' ys
-  turn {ys} l e h =
-      record { is = ap (λ (s : Page). ink_all path s ys) (exact h) ∙ sym (append path (page ws d) xs ys) ∙ sym (ap (ink_all path (page ws d)) e) ∙ l.is }
-
+module _ {ws₀ ws ws' : List ℕ} {nib₀ nib : Nib} {es₀ es xs : List Event} where
   -- after the loop the rest is drawn
-  pub done : Left path ws₀ d₀ es₀ ws d es → es ≡ xs → Drew path ws d xs ws' d' → Drew path ws₀ d₀ es₀ ws' d'
-  done l e h = drew (exact h ∙ sym (ap (ink_all path (page ws d)) e) ∙ l.is)
+  pub done : {r : Ink} → Left ws₀ nib₀ es₀ ws nib es → es ≡ xs → Drew ws nib xs ws' r → Drew ws₀ nib₀ es₀ ws' r
+  done l e h = drew (exact h ∙ sym (ap (ink_all (page ws (Ok nib))) e) ∙ l.is)
+
+  -- a turn draws the first events of what is left
+  pub turn : {nib' : Nib} {ys : List Event} → Left ws₀ nib₀ es₀ ws nib es → es ≡ xs ++ ys → Drew ws nib xs ws' (Ok nib') → Left ws₀ nib₀ es₀ ws' nib' ys
+  turn {nib'} {ys} l e h =
+      record { is = ap (λ (s : Page). ink_all s ys) (exact h) ∙ sym (append (page ws (Ok nib)) xs ys) ∙ sym (ap (ink_all (page ws (Ok nib))) e) ∙ l.is }
 
 -- a stop ends the loop
-pub halts : {path : ℕ} {ws₀ ws : List ℕ} {d₀ d : Ink} {es₀ es : List Event} → Left path ws₀ d₀ es₀ ws d es → has_stopped d ≡ true → Drew path ws₀ d₀ es₀ ws d
-halts {path} {ws = ws} {d = d} {es = es} l h = drew (absorbs path ws d es h ∙ l.is)
+pub halts : {ws₀ ws ws' : List ℕ} {nib₀ nib : Nib} {r : Ink} {s : Stopped} {es₀ es xs : List Event} (ys : List Event) → Left ws₀ nib₀ es₀ ws nib es → es ≡ xs ++ ys → Drew ws nib xs ws' (Err s) → IsErrAnd r (λ (e : Stopped). e ≡ s) → Drew ws₀ nib₀ es₀ ws' r
+halts ys l e h k = done l e (stops ys h k)
 
 -- ---- the lent words stay as many
-stored_length : (s t u : Bool) (path : ℕ) (ws : List ℕ) (nib : Nib) (p q : Vec2) → length (inked s t u path ws nib p q).words ≡ length ws
+stored_length : (s t u : Bool) (ws : List ℕ) (nib : Nib) (p q : Vec2) → length (inked s t u ws nib p q).words ≡ length ws
 unfolding inked
-stored_length true t u path ws nib p q = refl
-stored_length false true u path ws nib p q = refl
-stored_length false false false path ws nib p q = refl
-stored_length false false true path ws nib p q = length-sets ws (nib.count * 6) (record_of path nib.tag p q)
+stored_length true t u ws nib p q = refl
+stored_length false true u ws nib p q = refl
+stored_length false false false ws nib p q = refl
+stored_length false false true ws nib p q = length-sets ws (nib.count * 6) (record_of nib.path nib.tag p q)
 
-draw_length : (path : ℕ) (ws : List ℕ) (d : Ink) (e : Event) → length (ink_event path ws d e).words ≡ length ws
+draw_length : (ws : List ℕ) (d : Ink) (e : Event) → length (ink_event ws d e).words ≡ length ws
 unfolding ink_event ink_on
-draw_length path ws (Flows nib) (line p q) = stored_length (has_nan p) (has_nan q) (has_room ws nib.count) path ws nib p q
-draw_length path ws (Flows nib) no_count = refl
-draw_length path ws (Flows nib) no_join = refl
-draw_length path ws (Stops why n) e = refl
+draw_length ws (Ok nib) (line p q) = stored_length (has_nan p) (has_nan q) (has_room ws nib.count) ws nib p q
+draw_length ws (Ok nib) no_count = refl
+draw_length ws (Ok nib) no_join = refl
+draw_length ws (Err s) e = refl
 
-all_length : (path : ℕ) (s : Page) (es : List Event) → length (ink_all path s es).words ≡ length s.words
+all_length : (s : Page) (es : List Event) → length (ink_all s es).words ≡ length s.words
 unfolding ink_all
-all_length path s [] = refl
-all_length path s (e ∷ es) = all_length path (ink_event path s.words s.ink e) es ∙ draw_length path s.words s.ink e
+all_length s [] = refl
+all_length s (e ∷ es) = all_length (ink_event s.words s.ink e) es ∙ draw_length s.words s.ink e
 
-pub as_many : {path : ℕ} {ws ws' : List ℕ} {d d' : Ink} {es : List Event} → Drew path ws d es ws' d' → length ws' ≡ length ws
-as_many {path} {ws} {d = d} {es = es} h = ap (λ (s : Page). length s.words) (exact h) ∙ all_length path (page ws d) es
-
--- ---- branches
-
--- a test that held, or did not, picks the definition's side
-pub yes : {A : Type 0} {t : Bool} {x a : A} (b : A) → t ≡ true → x ≡ a → x ≡ cond t a b
-yes b h e = rw h e
-
-pub no : {A : Type 0} {t : Bool} {x b : A} (a : A) → t ≡ false → x ≡ b → x ≡ cond t a b
-no a h e = rw h e
+pub as_many : {ws ws' : List ℕ} {nib : Nib} {r : Ink} {es : List Event} → Drew ws nib es ws' r → length ws' ≡ length ws
+as_many {ws} {nib = nib} {es = es} h = ap (λ (s : Page). length s.words) (exact h) ∙ all_length (page ws (Ok nib)) es

@@ -1,5 +1,5 @@
 -- What is drawn is a list of events, in the source's order; how events are stored is one fold over the sheet, `draw_all`. Definitions only.
-use Rattle.std.specs.Prelude.{ℕ, ◌+◌, Bool, true, false, ◌&&◌, cond, List, [], ◌∷◌, ltb, ℤ, pos, negsuc, Float}
+use Rattle.std.specs.Prelude.{ℕ, ◌+◌, Bool, true, false, ◌&&◌, cond, List, [], ◌∷◌, Result, Ok, Err, ltb, ℤ, pos, negsuc, Float}
 use Rattle.std.proofs.lemmas.List.Edits.{sets}
 use Rattle.std.specs.Int.Signed.{lt_z}
 use Rattle.std.specs.Float.{binary32}
@@ -7,13 +7,13 @@ use Rattle.std.specs.Float.Ieee.{to_bits, to_signed}
 use Rattle.maths.specs.Numbers.{floor_of, ceil_of}
 use Rattle.records.specs.Record.{record_words, place_of, count as recordCount}
 use Rattle.refusals.specs.declared.LineEnd.TheVariants.{Start, End}
+use Rattle.refusals.specs.declared.Refusal.{Refusal}
 use Rattle.refusals.specs.declared.Refusal.TheVariants.{NotNumber, NoRoom, NoJoin, NoCount}
 use Rattle.spiral.specs.declared.util.Vec2.{Vec2}
 use Rattle.spiral.specs.Util.{has_nan, apply_of}
-use Rattle.drawing.specs.declared.line.IntBbox.{IntBbox}
+use Rattle.drawing.specs.declared.line.Bbox.{Bbox}
 use Rattle.drawing.specs.declared.line.Pen.{Pen}
-use Rattle.drawing.specs.declared.line.Drawn.{Drawn}
-use Rattle.drawing.specs.declared.line.Drawn.TheVariants.{On, Stopped}
+use Rattle.drawing.specs.declared.line.Stopped.{Stopped}
 
 -- ---- events
 
@@ -27,6 +27,8 @@ abbrev pub line_through : List Float → Vec2 → Vec2 → Event
 line_through z p q = line (apply_of z p) (apply_of z q)
 
 -- ---- the box
+abbrev pub IntBbox : Type 0
+IntBbox = Bbox ℤ
 
 unfoldable pub lower_of : ℤ → ℤ → ℤ
 lower_of a b = cond (lt_z b a) b a
@@ -48,6 +50,13 @@ box_with b p =
     }
 
 -- ---- the sheet
+
+-- the answer so far: the pen, or why no more is drawn, and how many whole lines are stored
+abbrev pub Drawn : Type 0
+Drawn = Result Pen Stopped
+
+abbrev pub halt : {A : Type 0} → Refusal → ℕ → Result A Stopped
+halt why n = Err (record { why = why; count = n })
 
 -- the lent words, and the answer so far
 pub record Sheet : Type 0 where
@@ -71,21 +80,21 @@ pen_behind pen p q = record { count = pen.count + 1; tag = pen.tag; bbox = box_w
 
 -- a line at the pen: whether its start has a NaN, then whether its end has, then whether it has room
 unfoldable pub stored : Bool → Bool → Bool → ℕ → List ℕ → Pen → Vec2 → Vec2 → Sheet
-stored true end room path ws pen p q = sheet ws (Stopped (NotNumber Start) pen.count)
-stored false true room path ws pen p q = sheet ws (Stopped (NotNumber End) pen.count)
-stored false false false path ws pen p q = sheet ws (Stopped NoRoom pen.count)
+stored true end room path ws pen p q = sheet ws (halt (NotNumber Start) pen.count)
+stored false true room path ws pen p q = sheet ws (halt (NotNumber End) pen.count)
+stored false false false path ws pen p q = sheet ws (halt NoRoom pen.count)
 stored false false true path ws pen p q =
-    sheet (sets ws (place_of pen.count) (record_of path pen.tag p q)) (On (pen_behind pen p q))
+    sheet (sets ws (place_of pen.count) (record_of path pen.tag p q)) (Ok (pen_behind pen p q))
 
 unfoldable pub draw_on : ℕ → List ℕ → Pen → Event → Sheet
 draw_on path ws pen (line p q) = stored (has_nan p) (has_nan q) (has_room ws pen.count) path ws pen p q
-draw_on path ws pen no_count = sheet ws (Stopped NoCount pen.count)
-draw_on path ws pen no_join = sheet ws (Stopped NoJoin pen.count)
+draw_on path ws pen no_count = sheet ws (halt NoCount pen.count)
+draw_on path ws pen no_join = sheet ws (halt NoJoin pen.count)
 
 -- one event; a stopped sheet takes no more
 unfoldable pub draw : ℕ → List ℕ → Drawn → Event → Sheet
-draw path ws (On pen) e = draw_on path ws pen e
-draw path ws (Stopped why n) e = sheet ws (Stopped why n)
+draw path ws (Ok pen) e = draw_on path ws pen e
+draw path ws (Err s) e = sheet ws (Err s)
 
 unfoldable pub draw_all : ℕ → Sheet → List Event → Sheet
 draw_all path s [] = s
@@ -95,9 +104,9 @@ draw_all path s (e ∷ es) = draw_all path (draw path s.words s.drawn e) es
 
 -- how many lines are stored
 abbrev pub count_of : Drawn → ℕ
-count_of (On pen) = pen.count
-count_of (Stopped why n) = n
+count_of (Ok pen) = pen.count
+count_of (Err s) = s.count
 
 unfoldable pub is_stopped : Drawn → Bool
-is_stopped (On pen) = false
-is_stopped (Stopped why n) = true
+is_stopped (Ok pen) = false
+is_stopped (Err s) = true

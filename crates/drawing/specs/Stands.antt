@@ -1,6 +1,6 @@
 -- What a drawing leaves in the lent words: the lines stored before stand, the records of its first lines follow, as many as the count has grown by, and every word behind them is as it was. Assumes nothing.
 use Prim.Native.Nat.{ℕ, zero, suc, ◌+◌, ◌*◌, ◌/◌, ◌<◌, ◌≤◌}
-use Rattle.std.specs.Prelude.{◌≡◌, refl, Bool, true, false, ◌&&◌, ltb, length}
+use Rattle.std.specs.Prelude.{◌≡◌, refl, Bool, true, false, ◌&&◌, ltb, length, Ok, Err}
 use Rattle.std.proofs.Math.Path.{ap}
 use Rattle.std.proofs.Common.{sym, ◌∙◌, subst, arith, ltb-true, length-append, take-append-drop, take_at, drop_at, drop-drop, length-take-le}
 use mathlib.Core.List.{List, [], ◌∷◌, ◌++◌, append-nil, append_assoc}
@@ -10,16 +10,14 @@ use Rattle.refusals.specs.declared.LineEnd.TheVariants.{Start, End}
 use Rattle.refusals.specs.declared.Refusal.TheVariants.{NotNumber, NoRoom, NoJoin, NoCount}
 use Rattle.spiral.specs.declared.util.Vec2.{Vec2}
 use Rattle.spiral.specs.Util.{has_nan}
-use Rattle.drawing.specs.Sheet.{Event, line, no_count, no_join, Sheet, sheet, record_of, pen_behind, has_room, stored, draw_on, draw, draw_all, count_of, is_stopped}
+use Rattle.drawing.specs.Sheet.{Event, line, no_count, no_join, Drawn, halt, Sheet, sheet, record_of, pen_behind, has_room, stored, draw_on, draw, draw_all, count_of, is_stopped}
 use Rattle.drawing.specs.SheetLaws.{absorbs}
 use Rattle.drawing.specs.declared.line.Pen.{Pen}
-use Rattle.drawing.specs.declared.line.Drawn.{Drawn}
-use Rattle.drawing.specs.declared.line.Drawn.TheVariants.{On, Stopped}
 
 -- the tag that draws; after a stop none does
 unfoldable pub pen_tag : Drawn → ℕ
-pen_tag (On pen) = pen.tag
-pen_tag (Stopped why n) = 0
+pen_tag (Ok pen) = pen.tag
+pen_tag (Err s) = 0
 
 -- the words of the first k events, where these are lines
 unfoldable pub records_of : ℕ → ℕ → ℕ → List Event → List ℕ
@@ -101,15 +99,15 @@ stop_leaves path tag e es ws d h = subst (Leaves path tag (e ∷ es) ws (count_o
 
 line_leaves : (path : ℕ) (p q : Vec2) (es : List Event) (ws : List ℕ) (pen : Pen) (s t u : Bool) → has_room ws pen.count ≡ u → ((ws : List ℕ) (d : Drawn) → Leaves path (pen_tag d) es ws (count_of d) (draw_all path (sheet ws d) es)) → Leaves path pen.tag (line p q ∷ es) ws pen.count (draw_all path (stored s t u path ws pen p q) es)
 unfolding stored is_stopped pen_tag
-line_leaves path p q es ws pen true t u h rest = stop_leaves path pen.tag (line p q) es ws (Stopped (NotNumber Start) pen.count) refl
-line_leaves path p q es ws pen false true u h rest = stop_leaves path pen.tag (line p q) es ws (Stopped (NotNumber End) pen.count) refl
-line_leaves path p q es ws pen false false false h rest = stop_leaves path pen.tag (line p q) es ws (Stopped NoRoom pen.count) refl
-line_leaves path p q es ws pen false false true h rest = one_more_lem path pen.tag p q es ws pen.count (fits_in ws pen.count h) (rest (sets ws (pen.count * 6) (record_of path pen.tag p q)) (On (pen_behind pen p q)))
+line_leaves path p q es ws pen true t u h rest = stop_leaves path pen.tag (line p q) es ws (halt (NotNumber Start) pen.count) refl
+line_leaves path p q es ws pen false true u h rest = stop_leaves path pen.tag (line p q) es ws (halt (NotNumber End) pen.count) refl
+line_leaves path p q es ws pen false false false h rest = stop_leaves path pen.tag (line p q) es ws (halt NoRoom pen.count) refl
+line_leaves path p q es ws pen false false true h rest = one_more_lem path pen.tag p q es ws pen.count (fits_in ws pen.count h) (rest (sets ws (pen.count * 6) (record_of path pen.tag p q)) (Ok (pen_behind pen p q)))
 
 pub stands : (path : ℕ) (es : List Event) (ws : List ℕ) (d : Drawn) → Stands path (pen_tag d) es ws (count_of d) (draw_all path (sheet ws d) es).words (count_of (draw_all path (sheet ws d) es).drawn)
 unfolding draw_all draw draw_on is_stopped pen_tag
 stands path [] ws d = none path (pen_tag d) [] ws (count_of d)
-stands path (line p q ∷ es) ws (On pen) = line_leaves path p q es ws pen (has_nan p) (has_nan q) (has_room ws pen.count) refl (stands path es)
-stands path (no_count ∷ es) ws (On pen) = stop_leaves path pen.tag no_count es ws (Stopped NoCount pen.count) refl
-stands path (no_join ∷ es) ws (On pen) = stop_leaves path pen.tag no_join es ws (Stopped NoJoin pen.count) refl
-stands path (e ∷ es) ws (Stopped why n) = stop_leaves path 0 e es ws (Stopped why n) refl
+stands path (line p q ∷ es) ws (Ok pen) = line_leaves path p q es ws pen (has_nan p) (has_nan q) (has_room ws pen.count) refl (stands path es)
+stands path (no_count ∷ es) ws (Ok pen) = stop_leaves path pen.tag no_count es ws (halt NoCount pen.count) refl
+stands path (no_join ∷ es) ws (Ok pen) = stop_leaves path pen.tag no_join es ws (halt NoJoin pen.count) refl
+stands path (e ∷ es) ws (Err s) = stop_leaves path 0 e es ws (Err s) refl

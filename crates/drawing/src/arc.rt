@@ -1,9 +1,11 @@
 // Arcs, as chords of a fixed turn.
+#![tactic(auto, unfolding(crate::specs::Arc::arc_radius, crate::specs::Arc::arc_step, crate::specs::Arc::arc_count, crate::specs::Arc::arc_turn, crate::specs::Arc::arc_of, crate::proofs::Floats::of_bits, crate::proofs::Floats::round))]
+
 ghost use Rattle.std.specs.Prelude.{◌≡◌};
 ghost use Rattle.drawing.specs.Page.{Drew};
 ghost use Rattle.drawing.specs.Arc.{arc_radius, arc_step, arc_count, arc_turn, chords, arc_of};
 
-use crate::line::{Ink, stopped, write_line};
+use crate::line::{Nib, Stopped, write_line};
 use spiral::util::{Vec2, apply};
 
 const TOLERANCE: f32 = 0.25;
@@ -13,7 +15,7 @@ const MIN_THETA: f32 = 0.0001;
 fn arc_radius(begin: Vec2, center: Vec2, transform: [f32; 6]) -> f32
     ensures { result ≡ arc_radius transform begin center }
 {
-    let spoke = apply(transform, begin).sub(apply(transform, center));
+    let spoke = apply(transform, begin) - apply(transform, center);
     maths::max(TOLERANCE, spoke.length())
 }
 
@@ -26,8 +28,7 @@ fn arc_step(radius: f32) -> f32
 fn arc_count(angle: f32, theta: f32) -> u32
     ensures { result ≡ arc_count angle theta }
 {
-    let n = maths::to_u32(maths::ceil(angle / theta));
-    if n > 1 { n } else { 1 }
+    maths::to_u32(maths::ceil(angle / theta)).max(1)
 }
 
 fn arc_turn(theta: f32) -> [f32; 6]
@@ -41,8 +42,7 @@ fn arc_turn(theta: f32) -> [f32; 6]
 // From the device point p0: chords to where the arm r turns about the center, and one to the given end.
 fn draw_chords(
     lines: &mut [u32],
-    ink: Ink,
-    path: u32,
+    nib: Nib,
     p0: Vec2,
     r: Vec2,
     center: Vec2,
@@ -50,53 +50,36 @@ fn draw_chords(
     rot: [f32; 6],
     transform: [f32; 6],
     turns: u32,
-) -> Ink
-    ensures { Drew path lines.old ink (chords turns rot transform center end p0 r) lines.new result }
+) -> Result<Nib, Stopped>
+    ensures { Drew lines.old nib (chords turns rot transform center end p0 r) lines.new result }
 {
+    let mut nib = nib;
     let mut at = p0;
     let mut arm = r;
-    let mut so = ink;
-    let mut left = turns;
-    while left > 0 {
-        if stopped(so) {
-            return so;
-        }
+    for _ in 0..turns {
         arm = apply(rot, arm);
-        let next = apply(transform, center.add(arm));
-        so = write_line(lines, so, path, at, next);
+        let next = apply(transform, center + arm);
+        nib = write_line(lines, nib, at, next)?;
         at = next;
-        left -= 1;
     }
-    write_line(lines, so, path, at, apply(transform, end))
+    write_line(lines, nib, at, apply(transform, end))
 }
 
 pub fn flatten_arc(
     lines: &mut [u32],
-    ink: Ink,
-    path: u32,
+    nib: Nib,
     begin: Vec2,
     end: Vec2,
     center: Vec2,
     angle: f32,
     transform: [f32; 6],
-) -> Ink
-    ensures { Drew path lines.old ink (arc_of transform begin end center angle) lines.new result }
+) -> Result<Nib, Stopped>
+    ensures { Drew lines.old nib (arc_of transform begin end center angle) lines.new result }
 {
     let theta = arc_step(arc_radius(begin, center, transform));
     let n_lines = arc_count(angle, theta);
     let p0 = apply(transform, begin);
-    let r = begin.sub(center);
+    let r = begin - center;
     let rot = arc_turn(theta);
-    draw_chords(
-        lines,
-        ink,
-        path,
-        p0,
-        r,
-        center,
-        end,
-        rot,
-        transform,
-        n_lines - 1,
-    )
+    draw_chords(lines, nib, p0, r, center, end, rot, transform, n_lines - 1)
 }

@@ -1,4 +1,6 @@
 // Points, derivatives and tangents of a cubic.
+#![tactic(auto, unfolding(crate::specs::Cubic::cubic_point, crate::specs::Cubic::cubic_deriv, crate::specs::Cubic::cubic_at, crate::specs::Cubic::first_long, crate::specs::Cubic::start_tangent, crate::specs::Cubic::end_tangent, crate::proofs::Floats::of_bits, crate::proofs::Floats::round))]
+
 ghost use Rattle.std.specs.Prelude.{◌≡◌};
 ghost use Rattle.drawing.specs.Cubic.{cubic_point, cubic_deriv, cubic_at, first_long, start_tangent, end_tangent};
 
@@ -22,8 +24,8 @@ fn cubic_point(p: [Vec2; 4], t: f32) -> Vec2
     let mm = m * m;
     let mt = m * t;
     let tt = t * t;
-    let inner = p1.mul(3.0 * mm).add(p2.mul(3.0 * mt)).add(p3.mul(tt));
-    p0.mul(mm * m).add(inner.mul(t))
+    let inner = p1 * (3.0 * mm) + p2 * (3.0 * mt) + p3 * tt;
+    p0 * (mm * m) + inner * t
 }
 
 fn cubic_deriv(p: [Vec2; 4], t: f32) -> Vec2
@@ -37,9 +39,9 @@ fn cubic_deriv(p: [Vec2; 4], t: f32) -> Vec2
     let mm = m * m;
     let mt = m * t;
     let tt = t * t;
-    let first = p1.sub(p0).mul(mm);
-    let second = p2.sub(p1).mul(2.0 * mt);
-    first.add(second).add(p3.sub(p2).mul(tt))
+    let first = (p1 - p0) * mm;
+    let second = (p2 - p1) * (2.0 * mt);
+    first + second + (p3 - p2) * tt
 }
 
 pub fn eval_cubic_and_deriv(points: [Vec2; 4], t: f32) -> CubicAt
@@ -63,6 +65,7 @@ fn first_long(a: Vec2, b: Vec2, c: Vec2) -> Vec2
     c
 }
 
+// The two tangents take the points in other orders, and what they share is `first_long`.
 pub fn cubic_start_tangent(p: [Vec2; 4]) -> Vec2
     ensures { result ≡ start_tangent p }
 {
@@ -70,7 +73,7 @@ pub fn cubic_start_tangent(p: [Vec2; 4]) -> Vec2
     let p1 = p[1];
     let p2 = p[2];
     let p3 = p[3];
-    first_long(p1.sub(p0), p2.sub(p0), p3.sub(p0))
+    first_long(p1 - p0, p2 - p0, p3 - p0)
 }
 
 pub fn cubic_end_tangent(p: [Vec2; 4]) -> Vec2
@@ -80,5 +83,5 @@ pub fn cubic_end_tangent(p: [Vec2; 4]) -> Vec2
     let p1 = p[1];
     let p2 = p[2];
     let p3 = p[3];
-    first_long(p3.sub(p2), p3.sub(p1), p3.sub(p0))
+    first_long(p3 - p2, p3 - p1, p3 - p0)
 }

@@ -1,10 +1,14 @@
 // The joins between the segments of a stroke.
+#![tactic(auto, unfolding(crate::specs::Join::cross, crate::specs::Join::corners_of, crate::specs::Join::bevel_events, crate::specs::Join::in_limit, crate::specs::Join::miter_point, crate::specs::Join::miter_events, crate::specs::Join::round_events, crate::specs::Join::round_by, crate::specs::Join::join_events, crate::specs::Join::join_by, crate::proofs::Floats::of_bits, crate::proofs::Floats::round))]
+
 ghost use Rattle.std.specs.Prelude.{◌≡◌};
 ghost use Rattle.drawing.specs.Page.{Drew};
 ghost use Rattle.drawing.specs.Join.{cross, corners_of, both_sides, bevel_events, in_limit, miter_point, miter_events, round_events, join_events};
 
 use crate::arc::flatten_arc;
-use crate::line::{Ink, no_join, output_line_with_transform, output_two_lines_with_transform};
+use crate::line::{
+    Nib, Stopped, no_join, output_line_with_transform, output_two_lines_with_transform,
+};
 use spiral::euler::TANGENT_THRESH;
 use spiral::util::Vec2;
 
@@ -43,107 +47,90 @@ fn cross_of(a: Vec2, b: Vec2) -> f32
 fn corners_of(p0: Vec2, n_prev: Vec2, n_next: Vec2) -> Corners
     ensures { result ≡ corners_of p0 n_prev n_next }
 {
-    let front0 = p0.add(n_prev);
-    let front1 = p0.add(n_next);
-    let back0 = p0.sub(n_next);
-    let back1 = p0.sub(n_prev);
     Corners {
-        front0,
-        front1,
-        back0,
-        back1,
+        front0: p0 + n_prev,
+        front1: p0 + n_next,
+        back0: p0 - n_next,
+        back1: p0 - n_prev,
     }
 }
 
 // The front, then the back.
-fn draw_sides(lines: &mut [u32], ink: Ink, path: u32, k: Corners, transform: [f32; 6]) -> Ink
-    ensures { Drew path lines.old ink (both_sides transform k) lines.new result }
+fn draw_sides(lines: &mut [u32], nib: Nib, k: Corners, transform: [f32; 6]) -> Result<Nib, Stopped>
+    ensures { Drew lines.old nib (both_sides transform k) lines.new result }
 {
-    output_two_lines_with_transform(
-        lines, ink, path, k.front0, k.front1, k.back0, k.back1, transform,
-    )
+    output_two_lines_with_transform(lines, nib, k.front0, k.front1, k.back0, k.back1, transform)
 }
 
-fn bevel_join(lines: &mut [u32], ink: Ink, path: u32, k: Corners, transform: [f32; 6]) -> Ink
-    ensures { Drew path lines.old ink (bevel_events transform k) lines.new result }
+fn bevel_join(lines: &mut [u32], nib: Nib, k: Corners, transform: [f32; 6]) -> Result<Nib, Stopped>
+    ensures { Drew lines.old nib (bevel_events transform k) lines.new result }
 {
-    if k.front0.eq(k.front1) {
-        return ink;
+    if k.front0 == k.front1 || k.back0 == k.back1 {
+        return Ok(nib);
     }
-    if k.back0.eq(k.back1) {
-        return ink;
-    }
-    draw_sides(lines, ink, path, k, transform)
+    draw_sides(lines, nib, k, transform)
 }
 
 fn in_limit(cr: f32, d: f32, limit: f32) -> bool
     ensures { result ≡ in_limit cr d limit }
 {
     let hypot = maths::hypot(cr, d);
-    if 2.0 * hypot < (hypot + d) * limit * limit {
-        return maths::abs(cr) > TANGENT_THRESH * TANGENT_THRESH;
-    }
-    false
+    2.0 * hypot < (hypot + d) * limit * limit && maths::abs(cr) > TANGENT_THRESH * TANGENT_THRESH
 }
 
 fn miter_point(b: Bend, last: Vec2, this: Vec2) -> Vec2
     ensures { result ≡ miter_point b last this }
 {
-    let h = cross_of(b.tan_prev, this.sub(last)) / b.cr;
-    this.sub(b.tan_next.mul(h))
+    let h = cross_of(b.tan_prev, this - last) / b.cr;
+    this - b.tan_next * h
 }
 
+// The back runs the other way, so its corners stand in another order than the front's, and the two sides are written out.
 fn miter_join(
     lines: &mut [u32],
-    ink: Ink,
-    path: u32,
+    nib: Nib,
     k: Corners,
     b: Bend,
     limit: f32,
     transform: [f32; 6],
-) -> Ink
-    ensures { Drew path lines.old ink (miter_events transform k b limit) lines.new result }
+) -> Result<Nib, Stopped>
+    ensures { Drew lines.old nib (miter_events transform k b limit) lines.new result }
 {
-    let mut rest = k;
     if in_limit(b.cr, b.d, limit) {
         if b.cr > 0.0 {
             let tip = miter_point(b, k.back1, k.back0);
-            rest.back0 = tip;
-            let first = output_line_with_transform(lines, ink, path, k.back0, tip, transform);
-            return draw_sides(lines, first, path, rest, transform);
+            let first = output_line_with_transform(lines, nib, k.back0, tip, transform)?;
+            return draw_sides(lines, first, Corners { back0: tip, ..k }, transform);
         }
         let tip = miter_point(b, k.front0, k.front1);
-        rest.front0 = tip;
-        let first = output_line_with_transform(lines, ink, path, k.front0, tip, transform);
-        return draw_sides(lines, first, path, rest, transform);
+        let first = output_line_with_transform(lines, nib, k.front0, tip, transform)?;
+        return draw_sides(lines, first, Corners { front0: tip, ..k }, transform);
     }
-    draw_sides(lines, ink, path, k, transform)
+    draw_sides(lines, nib, k, transform)
 }
 
 fn round_join(
     lines: &mut [u32],
-    ink: Ink,
-    path: u32,
+    nib: Nib,
     k: Corners,
     b: Bend,
     p0: Vec2,
     transform: [f32; 6],
-) -> Ink
-    ensures { Drew path lines.old ink (round_events transform k b p0) lines.new result }
+) -> Result<Nib, Stopped>
+    ensures { Drew lines.old nib (round_events transform k b p0) lines.new result }
 {
     let angle = maths::abs(maths::atan2(b.cr, b.d));
     if b.cr > 0.0 {
-        let first = flatten_arc(lines, ink, path, k.back0, k.back1, p0, angle, transform);
-        return output_line_with_transform(lines, first, path, k.front0, k.front1, transform);
+        let first = flatten_arc(lines, nib, k.back0, k.back1, p0, angle, transform)?;
+        return output_line_with_transform(lines, first, k.front0, k.front1, transform);
     }
-    let first = flatten_arc(lines, ink, path, k.front0, k.front1, p0, angle, transform);
-    output_line_with_transform(lines, first, path, k.back0, k.back1, transform)
+    let first = flatten_arc(lines, nib, k.front0, k.front1, p0, angle, transform)?;
+    output_line_with_transform(lines, first, k.back0, k.back1, transform)
 }
 
 pub fn draw_join(
     lines: &mut [u32],
-    ink: Ink,
-    path: u32,
+    nib: Nib,
     style_flags: u32,
     p0: Vec2,
     tan_prev: Vec2,
@@ -151,8 +138,8 @@ pub fn draw_join(
     n_prev: Vec2,
     n_next: Vec2,
     transform: [f32; 6],
-) -> Ink
-    ensures { Drew path lines.old ink (join_events style_flags transform p0 tan_prev tan_next n_prev n_next) lines.new result }
+) -> Result<Nib, Stopped>
+    ensures { Drew lines.old nib (join_events style_flags transform p0 tan_prev tan_next n_prev n_next) lines.new result }
 {
     let k = corners_of(p0, n_prev, n_next);
     let cr = cross_of(tan_prev, tan_next);
@@ -163,15 +150,10 @@ pub fn draw_join(
         cr,
         d,
     };
-    let bits = style_flags & JOIN_MASK;
-    if bits == JOIN_BEVEL {
-        return bevel_join(lines, ink, path, k, transform);
+    match style_flags & JOIN_MASK {
+        JOIN_BEVEL => bevel_join(lines, nib, k, transform),
+        JOIN_MITER => miter_join(lines, nib, k, b, maths::half(style_flags), transform),
+        JOIN_ROUND => round_join(lines, nib, k, b, p0, transform),
+        _ => no_join(nib),
     }
-    if bits == JOIN_MITER {
-        return miter_join(lines, ink, path, k, b, maths::half(style_flags), transform);
-    }
-    if bits == JOIN_ROUND {
-        return round_join(lines, ink, path, k, b, p0, transform);
-    }
-    no_join(ink)
 }

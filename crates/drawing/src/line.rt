@@ -1,19 +1,27 @@
 // A line is stored as six words behind those stored before, until one is refused.
+#![tactic(auto, unfolding(crate::specs::Page::lesser_of, crate::specs::Page::greater_of, crate::specs::Page::empty_reach, crate::specs::Page::reach_with, crate::specs::Page::whole_box, crate::specs::Page::pen_of, crate::specs::Page::stop_of, crate::specs::Sheet::empty_box))]
+
 ghost use Rattle.std.specs.Prelude.{◌≡◌, List, [], ◌∷◌, ℕ, ◌+◌, ◌<◌, length};
 ghost use Rattle.std.proofs.lemmas.List.Edits.{sets};
-ghost use Rattle.drawing.specs.Sheet.{lower_of, higher_of, empty_box, record_of, line, no_count, no_join, line_through};
-ghost use Rattle.drawing.specs.Page.{lesser_of, greater_of, empty_reach, reach_with, whole_box, dried_of, has_stopped, Drew};
+ghost use Rattle.drawing.specs.Sheet.{empty_box, record_of, line, no_count, no_join, line_through};
+ghost use Rattle.drawing.specs.Page.{lesser_of, greater_of, empty_reach, reach_with, whole_box, pen_of, stop_of, Drew};
 
 use refusals::{LineEnd, Refusal};
 use spiral::util::{Vec2, apply};
 
+// The box of points.
 #[derive(Clone, Copy)]
-pub struct IntBbox {
-    pub x0: i32,
-    pub y0: i32,
-    pub x1: i32,
-    pub y1: i32,
+pub struct Bbox<T> {
+    pub x0: T,
+    pub y0: T,
+    pub x1: T,
+    pub y1: T,
 }
+
+pub type IntBbox = Bbox<i32>;
+
+// By the coordinates as they are: floors and ceilings are taken once, of the whole.
+pub type Reach = Bbox<f32>;
 
 // How many lines are stored, the tag that draws, and the box of its lines.
 #[derive(Clone, Copy)]
@@ -23,31 +31,19 @@ pub struct Pen {
     pub bbox: IntBbox,
 }
 
-// The answer so far. A stop says why, and how many whole lines are stored.
+// Why no more is drawn, and how many whole lines are stored.
 #[derive(Clone, Copy)]
-pub enum Drawn {
-    On(Pen),
-    Stopped(Refusal, u32),
+pub struct Stopped {
+    pub why: Refusal,
+    pub count: u32,
 }
 
-pub fn lower(a: i32, b: i32) -> i32
-    ensures { result ≡ lower_of a b }
-{
-    if b < a { b } else { a }
-}
-
-pub fn higher(a: i32, b: i32) -> i32
-    ensures { result ≡ higher_of a b }
-{
-    if a < b { b } else { a }
-}
-
-impl IntBbox {
+impl Bbox<i32> {
     // The box of no point.
     pub fn empty() -> IntBbox
         ensures { result ≡ empty_box }
     {
-        IntBbox {
+        Bbox {
             x0: 2147483647,
             y0: 2147483647,
             x1: -2147483648,
@@ -56,30 +52,17 @@ impl IntBbox {
     }
 }
 
-// The box of points, by their coordinates as they are: floors and ceilings are taken once, of the whole.
-#[derive(Clone, Copy)]
-pub struct Reach {
-    pub x0: f32,
-    pub y0: f32,
-    pub x1: f32,
-    pub y1: f32,
-}
-
-// The pen while lines are drawn.
+// The pen while lines are drawn, and the path that they are drawn on. In this order a line takes the fewest instructions,
+// since a stop's `why` lies where the tag does.
 #[derive(Clone, Copy)]
 pub struct Nib {
-    pub count: u32,
     pub tag: u32,
+    pub path: u32,
+    pub count: u32,
     pub reach: Reach,
 }
 
-// The answer while lines are drawn.
-#[derive(Clone, Copy)]
-pub enum Ink {
-    Flows(Nib),
-    Stops(Refusal, u32),
-}
-
+// Not f32's min and max, which answer otherwise at a NaN and at the two zeros.
 fn lesser(a: f32, b: f32) -> f32
     ensures { result ≡ lesser_of a b }
 {
@@ -98,14 +81,14 @@ fn greater(a: f32, b: f32) -> f32
     a
 }
 
-impl Reach {
+impl Bbox<f32> {
     // The reach of no point.
     pub fn empty() -> Reach
         ensures { result ≡ empty_reach }
     {
         let least = f32::from_bits(0xff80_0000);
         let most = f32::from_bits(0x7f80_0000);
-        Reach {
+        Bbox {
             x0: most,
             y0: most,
             x1: least,
@@ -120,7 +103,7 @@ impl Reach {
         let y0 = lesser(self.y0, pt.y);
         let x1 = greater(self.x1, pt.x);
         let y1 = greater(self.y1, pt.y);
-        Reach { x0, y0, x1, y1 }
+        Bbox { x0, y0, x1, y1 }
     }
 
     // `span` is the quickest floor, and the quickest ceiling: what is not taken of it is not compiled.
@@ -131,26 +114,26 @@ impl Reach {
         let y0 = maths::span(self.y0)[0];
         let x1 = maths::span(self.x1)[1];
         let y1 = maths::span(self.y1)[1];
-        IntBbox { x0, y0, x1, y1 }
+        Bbox { x0, y0, x1, y1 }
     }
 }
 
-impl Ink {
-    pub fn dried(self) -> Drawn
-        ensures { result ≡ dried_of self }
+impl Nib {
+    pub fn dried(self) -> Pen
+        ensures { result ≡ pen_of self }
     {
-        match self {
-            Ink::Flows(nib) => {
-                let reach = nib.reach;
-                let bbox = reach.whole();
-                Drawn::On(Pen {
-                    count: nib.count,
-                    tag: nib.tag,
-                    bbox,
-                })
-            }
-            Ink::Stops(why, count) => Drawn::Stopped(why, count),
+        Pen {
+            count: self.count,
+            tag: self.tag,
+            bbox: self.reach.whole(),
         }
+    }
+
+    fn stop(self, why: Refusal) -> Stopped
+        ensures { result ≡ stop_of self why }
+    {
+        let count = self.count;
+        Stopped { why, count }
     }
 }
 
@@ -170,93 +153,72 @@ fn put(lines: &mut [u32], at: usize, path: u32, tag: u32, p0: Vec2, p1: Vec2)
     lines[at + 5] = y1;
 }
 
-// Takes device points. A NaN is refused before room is looked for, the start's before the end's. The functions that draw with this
-// one hand the answer on unseen: after a stop nothing more is stored.
-pub fn write_line(lines: &mut [u32], ink: Ink, path: u32, p0: Vec2, p1: Vec2) -> Ink
-    ensures { Drew path lines.old ink (line p0 p1 ∷ []) lines.new result }
+// Takes device points. The lines stay lent and the nib goes by value, here and in all that draws: in one struct each line would
+// take both out of it and put a new nib in. A NaN is refused before room is looked for, the start's before the end's.
+pub fn write_line(lines: &mut [u32], nib: Nib, p0: Vec2, p1: Vec2) -> Result<Nib, Stopped>
+    ensures { Drew lines.old nib (line p0 p1 ∷ []) lines.new result }
 {
-    let Ink::Flows(nib) = ink else {
-        return ink;
-    };
-    let count = nib.count;
     if p0.is_nan() {
-        return Ink::Stops(Refusal::NotNumber(LineEnd::Start), count);
+        return Err(nib.stop(Refusal::NotNumber(LineEnd::Start)));
     }
     if p1.is_nan() {
-        return Ink::Stops(Refusal::NotNumber(LineEnd::End), count);
+        return Err(nib.stop(Refusal::NotNumber(LineEnd::End)));
     }
+    let count = nib.count;
     // One more would make the count 2^32.
     if count >= 4294967295 {
-        return Ink::Stops(Refusal::NoRoom, count);
+        return Err(nib.stop(Refusal::NoRoom));
     }
     let at = count as usize;
-    if at < lines.len() / 6 {
-        let tag = nib.tag;
-        put(lines, at * 6, path, tag, p0, p1);
-        let b = nib.reach;
-        let reach = b.add_pt(p0).add_pt(p1);
-        Ink::Flows(Nib {
-            count: count + 1,
-            tag,
-            reach,
-        })
-    } else {
-        Ink::Stops(Refusal::NoRoom, count)
+    if at >= lines.len() / 6 {
+        return Err(nib.stop(Refusal::NoRoom));
     }
+    put(lines, at * 6, nib.path, nib.tag, p0, p1);
+    Ok(Nib {
+        count: count + 1,
+        tag: nib.tag,
+        path: nib.path,
+        reach: nib.reach.add_pt(p0).add_pt(p1),
+    })
 }
 
 pub fn output_line_with_transform(
     lines: &mut [u32],
-    ink: Ink,
-    path: u32,
+    nib: Nib,
     p0: Vec2,
     p1: Vec2,
     transform: [f32; 6],
-) -> Ink
-    ensures { Drew path lines.old ink (line_through transform p0 p1 ∷ []) lines.new result }
+) -> Result<Nib, Stopped>
+    ensures { Drew lines.old nib (line_through transform p0 p1 ∷ []) lines.new result }
 {
-    write_line(lines, ink, path, apply(transform, p0), apply(transform, p1))
+    write_line(lines, nib, apply(transform, p0), apply(transform, p1))
 }
 
 pub fn output_two_lines_with_transform(
     lines: &mut [u32],
-    ink: Ink,
-    path: u32,
+    nib: Nib,
     p00: Vec2,
     p01: Vec2,
     p10: Vec2,
     p11: Vec2,
     transform: [f32; 6],
-) -> Ink
-    ensures { Drew path lines.old ink (line_through transform p00 p01 ∷ line_through transform p10 p11 ∷ []) lines.new result }
+) -> Result<Nib, Stopped>
+    ensures { Drew lines.old nib (line_through transform p00 p01 ∷ line_through transform p10 p11 ∷ []) lines.new result }
 {
-    let first = output_line_with_transform(lines, ink, path, p00, p01, transform);
-    output_line_with_transform(lines, first, path, p10, p11, transform)
+    let first = output_line_with_transform(lines, nib, p00, p01, transform)?;
+    output_line_with_transform(lines, first, p10, p11, transform)
 }
 
 // Where a subdivision count is not a number.
-pub fn no_count(ink: Ink) -> Ink
-    ensures { (path : ℕ) (ws : List ℕ) → Drew path ws ink (no_count ∷ []) ws result }
+pub fn no_count(nib: Nib) -> Result<Nib, Stopped>
+    ensures { (ws : List ℕ) → Drew ws nib (no_count ∷ []) ws result }
 {
-    let Ink::Flows(nib) = ink else {
-        return ink;
-    };
-    Ink::Stops(Refusal::NoCount, nib.count)
+    Err(nib.stop(Refusal::NoCount))
 }
 
 // Where the style names no join.
-pub fn no_join(ink: Ink) -> Ink
-    ensures { (path : ℕ) (ws : List ℕ) → Drew path ws ink (no_join ∷ []) ws result }
+pub fn no_join(nib: Nib) -> Result<Nib, Stopped>
+    ensures { (ws : List ℕ) → Drew ws nib (no_join ∷ []) ws result }
 {
-    let Ink::Flows(nib) = ink else {
-        return ink;
-    };
-    Ink::Stops(Refusal::NoJoin, nib.count)
-}
-
-// For loops, which end at a stop.
-pub fn stopped(ink: Ink) -> bool
-    ensures { result ≡ has_stopped ink }
-{
-    if let Ink::Flows(_) = ink { false } else { true }
+    Err(nib.stop(Refusal::NoJoin))
 }

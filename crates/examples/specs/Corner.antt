@@ -26,7 +26,7 @@ use Rattle.curve.specs.Curve.{line_of, range_of, range_end, tip_of, is_near, wal
 use Rattle.curve.specs.Curve as curve
 use Rattle.segment.specs.Segment.{quarter, steady_of, tangents_of, edges_of, sides_events, end_events, stroke_events, start_cap_events, neighbor_of, shape_events}
 use Rattle.flatten.specs.Boxes.{fresh_box, has_extent, marked_of, merged_of, changed_of, changed_at}
-use Rattle.flatten.specs.Tag.{◌>>=◌, boxed, head_at, finite_only, neighbor_at, stroke_by, stroke_at, shape_at, events_by, events_at}
+use Rattle.flatten.specs.Tag.{boxed, head_at, finite_only, neighbor_at, stroke_by, stroke_at, shape_at, events_by, events_at}
 use Rattle.flatten.specs.Step.{drawn_of, change_of, turn_of, refused_at, step_from_by, step_by}
 use Rattle.flatten.specs.Call.{first_turn, start_of, taken, onward_by, after_by, answer_of, said, told_of, call_by}
 use Rattle.records.specs.Record.{key, once}
@@ -80,7 +80,7 @@ record Computed : Type 0 where
   narrow_ends : ends 0xbf7fffff 0x3f800000 (watertight.lines_of (corner narrow) (run 2 3)) ≡ 1
 
 computed : Computed
-unfolding flatten of_bits of_int to_bits to_signed to_unsigned round neg add sub mul div lt le eq is_nan sign_of signed abs_of half_units half_fields half_of before max_of clamp_of whole_of floor_of ceil_of sqrt_of hypot_of trig.bounded_of trig.sin_near trig.cos_near trig.reduced_of trig.curve_of trig.wave_of trig.sin_of trig.cos_of trig.angle_of trig.atan2_of add_of sub_of mul_of dot_of length_of length_squared_of mix_of angle_of has_nan eq_of identity_of apply_of fitted_error error_ratio long_chord from_points_derivs from_angles word_at tag_sums plus byte_at sums_below tag_data prefix_at with_prefix tag_in tag_of i16_of i16_point point_words point_at line_cubic point_count raised scene.cubic_of reaches segment_of floats_at transform_of flags_of lower_of higher_of empty_box box_with has_room sheet.stored draw_on draw draw_all cubic_point cubic_deriv cubic_at is_short first_tip tip_at params_of multiplier_of integrand_of robust_of n_frac_of fit_of line_of curve.lines_of range_of range_end tip_of is_near curve.accepted walk is_point side_events euler_events shape_events fresh_box has_extent marked_of merged_of changed_of changed_at ◌>>=◌ boxed head_at finite_only all_finite shape_at events_by events_at drawn_of change_of turn_of refused_at step_from_by step_by first_turn start_of taken onward_by after_by answer_of told_of call_by start_tangent end_tangent first_long neighbor_at stroke_by stroke_at width_of local_side sides_events end_events stroke_events start_cap_events edges_of tangents_of steady_of quarter neighbor_of normalize_of div_of neg_of cap_events cap_by square_cap join_events join_by bevel_events corners_of cross watertight.lines_of drawn_at events_or head_of head_or run starts_by ends_by key once corner corner_style stroke_cubic half_width join_corners place_of
+unfolding flatten of_bits of_int to_bits to_signed to_unsigned round neg add sub mul div lt le eq is_nan sign_of signed abs_of half_units half_fields half_of before max_of clamp_of whole_of floor_of ceil_of sqrt_of hypot_of trig.bounded_of trig.sin_near trig.cos_near trig.reduced_of trig.curve_of trig.wave_of trig.sin_of trig.cos_of trig.angle_of trig.atan2_of add_of sub_of mul_of dot_of length_of length_squared_of mix_of angle_of has_nan eq_of identity_of apply_of fitted_error error_ratio long_chord from_points_derivs from_angles word_at tag_sums plus byte_at sums_below tag_data prefix_at with_prefix tag_in tag_of i16_of i16_point point_words point_at line_cubic point_count raised scene.cubic_of reaches segment_of floats_at transform_of flags_of lower_of higher_of empty_box box_with has_room sheet.stored draw_on draw draw_all cubic_point cubic_deriv cubic_at is_short first_tip tip_at params_of multiplier_of integrand_of robust_of n_frac_of fit_of line_of curve.lines_of range_of range_end tip_of is_near curve.accepted walk is_point side_events euler_events shape_events fresh_box has_extent marked_of merged_of changed_of changed_at boxed head_at finite_only all_finite shape_at events_by events_at drawn_of change_of turn_of refused_at step_from_by step_by first_turn start_of taken onward_by after_by answer_of told_of call_by start_tangent end_tangent first_long neighbor_at stroke_by stroke_at width_of local_side sides_events end_events stroke_events start_cap_events edges_of tangents_of steady_of quarter neighbor_of normalize_of div_of neg_of cap_events cap_by square_cap join_events join_by bevel_events corners_of cross watertight.lines_of drawn_at events_or head_of head_or run starts_by ends_by key once corner corner_style stroke_cubic half_width join_corners place_of
 computed =
     record {
       two_wide = refl;
@@ -119,7 +119,7 @@ one P a (suc (suc zero)) g l = a
 one P a (suc (suc (suc k))) g l = absurd (omega arith)
 
 pub corner_stroke : (w : ℕ) → HasWidth (corner_style w) → OpenStroke (corner w) 2 2
-unfolding flatten of_bits of_int to_bits to_signed to_unsigned round neg add sub mul div lt le eq is_nan sign_of signed abs_of half_units half_fields half_of before max_of clamp_of whole_of floor_of ceil_of sqrt_of hypot_of trig.bounded_of trig.sin_near trig.cos_near trig.reduced_of trig.curve_of trig.wave_of trig.sin_of trig.cos_of trig.angle_of trig.atan2_of add_of sub_of mul_of dot_of length_of length_squared_of mix_of angle_of has_nan eq_of identity_of apply_of fitted_error error_ratio long_chord from_points_derivs from_angles word_at tag_sums plus byte_at sums_below tag_data prefix_at with_prefix tag_in tag_of i16_of i16_point point_words point_at line_cubic point_count raised scene.cubic_of reaches segment_of floats_at transform_of flags_of lower_of higher_of empty_box box_with has_room sheet.stored draw_on draw draw_all cubic_point cubic_deriv cubic_at is_short first_tip tip_at params_of multiplier_of integrand_of robust_of n_frac_of fit_of line_of curve.lines_of range_of range_end tip_of is_near curve.accepted walk is_point side_events euler_events shape_events fresh_box has_extent marked_of merged_of changed_of changed_at ◌>>=◌ boxed head_at finite_only all_finite shape_at events_by events_at drawn_of change_of turn_of refused_at step_from_by step_by first_turn start_of taken onward_by after_by answer_of told_of call_by start_tangent end_tangent first_long neighbor_at stroke_by stroke_at width_of local_side sides_events end_events stroke_events start_cap_events edges_of tangents_of steady_of quarter neighbor_of normalize_of div_of neg_of cap_events cap_by square_cap join_events join_by bevel_events corners_of cross watertight.lines_of drawn_at events_or head_of head_or run starts_by ends_by key once corner corner_style stroke_cubic half_width join_corners place_of watertight.point_of
+unfolding flatten of_bits of_int to_bits to_signed to_unsigned round neg add sub mul div lt le eq is_nan sign_of signed abs_of half_units half_fields half_of before max_of clamp_of whole_of floor_of ceil_of sqrt_of hypot_of trig.bounded_of trig.sin_near trig.cos_near trig.reduced_of trig.curve_of trig.wave_of trig.sin_of trig.cos_of trig.angle_of trig.atan2_of add_of sub_of mul_of dot_of length_of length_squared_of mix_of angle_of has_nan eq_of identity_of apply_of fitted_error error_ratio long_chord from_points_derivs from_angles word_at tag_sums plus byte_at sums_below tag_data prefix_at with_prefix tag_in tag_of i16_of i16_point point_words point_at line_cubic point_count raised scene.cubic_of reaches segment_of floats_at transform_of flags_of lower_of higher_of empty_box box_with has_room sheet.stored draw_on draw draw_all cubic_point cubic_deriv cubic_at is_short first_tip tip_at params_of multiplier_of integrand_of robust_of n_frac_of fit_of line_of curve.lines_of range_of range_end tip_of is_near curve.accepted walk is_point side_events euler_events shape_events fresh_box has_extent marked_of merged_of changed_of changed_at boxed head_at finite_only all_finite shape_at events_by events_at drawn_of change_of turn_of refused_at step_from_by step_by first_turn start_of taken onward_by after_by answer_of told_of call_by start_tangent end_tangent first_long neighbor_at stroke_by stroke_at width_of local_side sides_events end_events stroke_events start_cap_events edges_of tangents_of steady_of quarter neighbor_of normalize_of div_of neg_of cap_events cap_by square_cap join_events join_by bevel_events corners_of cross watertight.lines_of drawn_at events_or head_of head_or run starts_by ends_by key once corner corner_style stroke_cubic half_width join_corners place_of watertight.point_of
 corner_stroke w h =
     record {
       style = corner_style w;

@@ -21,7 +21,7 @@ use Rattle.curve.specs.Fit.{is_short, first_tip, tip_at, params_of, multiplier_o
 use Rattle.curve.specs.Curve.{line_of, lines_of, range_of, range_end, tip_of, is_near, accepted, walk, is_point, side_events, device_side, euler_events}
 use Rattle.segment.specs.Segment.{fill_events, shape_events}
 use Rattle.flatten.specs.Boxes.{fresh_box, has_extent, marked_of, merged_of, changed_of, changed_at}
-use Rattle.flatten.specs.Tag.{◌>>=◌, boxed, head_at, finite_only, shape_at, events_by, events_at}
+use Rattle.flatten.specs.Tag.{boxed, head_at, finite_only, shape_at, events_by, events_at}
 use Rattle.flatten.specs.Step.{drawn_of, change_of, turn_of, refused_at, step_from_by, step_by}
 use Rattle.flatten.specs.Call.{first_turn, start_of, taken, answer_of, told_of, Outcome, after_by, call_by, onward_by}
 use Rattle.pattern.specs.Every.{Every}
@@ -60,7 +60,7 @@ unfoldable pub its_left : commands.Outcome
 its_left = left its_tags its_points its_commands
 
 -- refused with 20, and three tags and eight words are written
-pub is_left : (its_left.number ≡ 20) × (its_left.tags ≡ 0x09 ∷ 0x09 ∷ 0x0d ∷ []) × (its_left.points ≡ 0 ∷ 0 ∷ 0x40400000 ∷ 0 ∷ 0 ∷ 0x40c00000 ∷ 0 ∷ 0 ∷ [])
+pub is_left : (commands.number_of its_left.answer ≡ 20) × (its_left.tags ≡ 0x09 ∷ 0x09 ∷ 0x0d ∷ []) × (its_left.points ≡ 0 ∷ 0 ∷ 0x40400000 ∷ 0 ∷ 0 ∷ 0x40c00000 ∷ 0 ∷ 0 ∷ [])
 unfolding its_left commands.same commands.words_of commands.floats_of commands.spots commands.target commands.tag_of commands.finishing commands.start_of commands.ink_of commands.place_of commands.ended commands.fits commands.number_of commands.written commands.inked commands.may_draw commands.named commands.command_of meaning.after eq_of eq of_bits round all_finite
 is_left = (refl, refl, refl)
 
@@ -87,7 +87,7 @@ its_call =
 
 -- it is accepted, and stores the lines and the box of the triangle
 pub its_outcome : outcome its_call ≡ drawn
-unfolding its_call flatten of_bits of_int to_bits to_signed to_unsigned round neg add sub mul div lt le eq is_nan sign_of signed abs_of before max_of clamp_of whole_of floor_of ceil_of sqrt_of two_thirds_of hypot_of trig.bounded_of trig.sin_near trig.cos_near trig.reduced_of trig.curve_of trig.wave_of trig.sin_of trig.cos_of trig.angle_of trig.atan2_of add_of sub_of mul_of dot_of length_of length_squared_of mix_of angle_of has_nan eq_of identity_of apply_of fitted_error error_ratio long_chord from_points_derivs from_angles word_at tag_sums plus byte_at sums_below word_sums tag_data prefix_at with_prefix tag_in tag_of sums_before prefixes filled scan_of f32_point point_words point_at line_cubic point_count raised cubic_of reaches segment_of floats_at transform_of all_finite flags_of lower_of higher_of empty_box box_with has_room stored draw_on draw draw_all cubic_point cubic_deriv cubic_at is_short first_tip tip_at params_of multiplier_of integrand_of robust_of n_frac_of fit_of line_of lines_of range_of range_end tip_of is_near accepted walk is_point side_events device_side euler_events fill_events shape_events fresh_box has_extent marked_of merged_of changed_of changed_at ◌>>=◌ boxed head_at finite_only shape_at events_by events_at drawn_of change_of turn_of refused_at step_from_by step_by first_turn start_of taken onward_by after_by answer_of number_of end_of told_of call_by
+unfolding its_call flatten of_bits of_int to_bits to_signed to_unsigned round neg add sub mul div lt le eq is_nan sign_of signed abs_of before max_of clamp_of whole_of floor_of ceil_of sqrt_of two_thirds_of hypot_of trig.bounded_of trig.sin_near trig.cos_near trig.reduced_of trig.curve_of trig.wave_of trig.sin_of trig.cos_of trig.angle_of trig.atan2_of add_of sub_of mul_of dot_of length_of length_squared_of mix_of angle_of has_nan eq_of identity_of apply_of fitted_error error_ratio long_chord from_points_derivs from_angles word_at tag_sums plus byte_at sums_below word_sums tag_data prefix_at with_prefix tag_in tag_of sums_before prefixes filled scan_of f32_point point_words point_at line_cubic point_count raised cubic_of reaches segment_of floats_at transform_of all_finite flags_of lower_of higher_of empty_box box_with has_room stored draw_on draw draw_all cubic_point cubic_deriv cubic_at is_short first_tip tip_at params_of multiplier_of integrand_of robust_of n_frac_of fit_of line_of lines_of range_of range_end tip_of is_near accepted walk is_point side_events device_side euler_events fill_events shape_events fresh_box has_extent marked_of merged_of changed_of changed_at boxed head_at finite_only shape_at events_by events_at drawn_of change_of turn_of refused_at step_from_by step_by first_turn start_of taken onward_by after_by answer_of number_of end_of told_of call_by
 its_outcome = refl
 
 pub its_acceptance : Accepted its_call

@@ -1,16 +1,16 @@
 -- The corner of width 2, moved to f32 points at other bases, meets every condition of `moved_sheet_flattens`: so it flattens as before. Assumes nothing.
-use Rattle.std.specs.Prelude.{ℕ, zero, suc, ◌+◌, ◌<◌, ◌≡◌, refl, Bool, true, false, ◌&&◌, ◌||◌, not, List, [], ◌∷◌, ◌++◌, leb, ltb, eqb, replicate}
+use Rattle.std.specs.Prelude.{ℕ, zero, suc, ◌+◌, ◌<◌, ◌≡◌, refl, Bool, true, false, ◌&&◌, ◌||◌, not, List, [], ◌∷◌, ◌++◌, leb, ltb, eqb, replicate, Ok, Err}
 use Rattle.std.proofs.Common.{ap, ◌∙◌, arith, lit≤, leb-true, ltb-true, eqb-true}
 use Rattle.std.proofs.Math.Decide.{ℕ_discrete}
 use Rattle.std.specs.Float.Ieee.{of_bits, of_int, to_bits, round, neg, odd, units, size, span, climb}
 use Rattle.std.proofs.lemmas.Bool.{not-true}
-use Rattle.refusals.specs.Refusals.{Read, found, refused}
+use Rattle.refusals.specs.Refusals.{Read}
 use Rattle.scene.specs.Words.{word_at}
 use Rattle.scene.specs.Tags.{bit, tag_sums, plus, byte_at, sums_below, word_sums, tag_data, prefix_at, with_prefix, tag_in, tag_of, sums_before, prefixes, filled, scan_of}
 use Rattle.scene.specs.Fresh.{byte_of}
 use Rattle.scene.specs.Reading.{i16_of, point_count, floats_at, transform_of, flags_of, width_of}
 use Rattle.flatten.specs.Boxes.{fresh_box}
-use Rattle.flatten.specs.Tag.{◌>>=◌, boxed, head_at}
+use Rattle.flatten.specs.Tag.{boxed, head_at}
 use Rattle.watertight.specs.Fill.{Call, outcome, head_or, head_of, type_of, tags}
 use Rattle.sheets.specs.Moving.{is_old, new_tag, total, new_points, lead, unless, to_f32}
 use Rattle.same_lines.specs.Conditions.{bytes_to, Scanned, Roomy, counted, Segment, Few, ReadsCounted, Followed, SheetMoved, SameLent, SameStyles, SameTransforms}
@@ -58,15 +58,15 @@ or_says true b e f = let z : ◌≡◌ {A = ℕ} 0 1 = cc in absurd (omega arith
 or_says false b e f = e
 
 same_word : Read ℕ → Read ℕ → Bool
-same_word (found a) (found b) = eqb a b
-same_word (found a) (refused w) = false
-same_word (refused v) r = false
+same_word (Ok a) (Ok b) = eqb a b
+same_word (Ok a) (Err w) = false
+same_word (Err v) r = false
 
 same_word_lem : (v w : Read ℕ) → same_word v w ≡ true → v ≡ w
 unfolding same_word
-same_word_lem (found a) (found b) e = ap found (eqb-true _ _ e)
-same_word_lem (found a) (refused w) e = let z : ◌≡◌ {A = ℕ} 0 1 = cc in absurd (omega arith)
-same_word_lem (refused v) w e = let z : ◌≡◌ {A = ℕ} 0 1 = cc in absurd (omega arith)
+same_word_lem (Ok a) (Ok b) e = ap Ok (eqb-true _ _ e)
+same_word_lem (Ok a) (Err w) e = let z : ◌≡◌ {A = ℕ} 0 1 = cc in absurd (omega arith)
+same_word_lem (Err v) w e = let z : ◌≡◌ {A = ℕ} 0 1 = cc in absurd (omega arith)
 
 -- ---- what the conditions ask of tag i: nothing where it has no segment
 abbrev offset_of : ℕ → ℕ
@@ -98,7 +98,7 @@ record Computed : Type 0 where
   transform : all_below 256 transform_test ≡ true
 
 computed : Computed
-unfolding same_word all_below corner new new_scene counted head_of head_or head_at boxed ◌>>=◌ tag_of tag_in with_prefix tag_data prefix_at sums_below plus tag_sums byte_at word_at flags_of width_of scan_of filled prefixes sums_before word_sums point_count
+unfolding same_word all_below corner new new_scene counted head_of head_or head_at boxed tag_of tag_in with_prefix tag_data prefix_at sums_below plus tag_sums byte_at word_at flags_of width_of scan_of filled prefixes sums_before word_sums point_count
 computed = record { reads = refl; followed = refl; flags = refl; width = refl; transform = refl }
 
 tag_test : (p : ℕ → Bool) → all_below 256 p ≡ true → (i : ℕ) → i < tags old → p i ≡ true

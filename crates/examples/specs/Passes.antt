@@ -1,5 +1,5 @@
 -- The triangle's call draws a closed fill and nothing else, so what `own_lists` asks is met, and its list passes the check. Assumes nothing.
-use Rattle.std.specs.Prelude.{ℕ, zero, suc, ◌+◌, ◌≤◌, ◌<◌, ◌≡◌, refl, List, [], ◌∷◌, eqb, length, take}
+use Rattle.std.specs.Prelude.{Ok, ℕ, zero, suc, ◌+◌, ◌≤◌, ◌<◌, ◌≡◌, refl, List, [], ◌∷◌, eqb, length, take}
 use Rattle.std.proofs.Common.{sym, ap, subst, arith, lit<, ne_eqb}
 use Rattle.std.specs.Float.Ieee.{of_bits}
 use Rattle.records.specs.Record.{once, is_bad, bad_at}
@@ -8,7 +8,7 @@ use Rattle.checker.specs.declared.Verdict.TheVariants.{Sound}
 use Rattle.scene.specs.Words.{word_at}
 use Rattle.scene.specs.Tags.{tag_sums, plus, byte_at, sums_below, word_sums, tag_data, prefix_at, with_prefix, tag_in, tag_of, sums_before, prefixes, filled, scan_of}
 use Rattle.scene.specs.Reading.{flags_of}
-use Rattle.flatten.specs.Tag.{◌>>=◌, boxed, head_at}
+use Rattle.flatten.specs.Tag.{boxed, head_at}
 use Rattle.flatten.specs.Call.{Outcome}
 use Rattle.watertight.specs.Fill.{head_or, head_of, path_at, drawn_at, Each}
 use Rattle.own_lists.specs.Fills.{list_of, EachOutline, tags_of, times, OnlyClosedFills}
@@ -19,7 +19,7 @@ use Rattle.examples.specs.Table.{its_call, drawn, as_many}
 use Rattle.examples.specs.Triangle.{its_outcome, its_acceptance, its_run, its_end}
 
 its_path : Each (λ j. path_at its_call j ≡ path_at its_call 2) (3 ∷ 4 ∷ [])
-unfolding its_call Each head_of head_or head_at boxed ◌>>=◌ tag_of tag_in with_prefix tag_data prefix_at sums_below word_sums sums_before prefixes filled scan_of plus tag_sums byte_at word_at flags_of
+unfolding its_call Each head_of head_or head_at boxed tag_of tag_in with_prefix tag_data prefix_at sums_below word_sums sums_before prefixes filled scan_of plus tag_sums byte_at word_at flags_of
 its_path = (refl, (refl, tt))
 
 past : (a i : ℕ) → a < i → once (eqb a i) ≡ 0
@@ -73,6 +73,6 @@ its_fills =
       finite = its_finite;
     }
 
-pub its_list_passes : Answers (list_of its_call its_acceptance) Sound
+pub its_list_passes : Answers (list_of its_call its_acceptance) (Ok Sound)
 unfolding its_fills
 its_list_passes = own_fills_pass its_call its_fills

@@ -1,5 +1,5 @@
 -- Twelve examples measured on the source, in one table, which antt computes from the definitions. Assumes nothing.
-use Rattle.std.specs.Prelude.{ℕ, ◌+◌, ◌*◌, ◌≡◌, refl, length, replicate, ℤ, pos, negsuc, Float}
+use Rattle.std.specs.Prelude.{ℕ, ◌+◌, ◌*◌, ◌≡◌, refl, length, replicate, ℤ, pos, negsuc, Float, Ok, Err}
 use mathlib.Core.List.{List, [], ◌∷◌, ◌++◌, map, flatten}
 use Rattle.std.specs.Float.Ieee.{of_bits, of_int, to_bits, to_signed, to_unsigned, round, neg, add, sub, mul, div, lt, le, eq, is_nan}
 use Rattle.laws.specs.Binary32.{dec, whole}
@@ -8,7 +8,7 @@ use Rattle.numbers.specs.Select.{before, max_of, clamp_of}
 use Rattle.numbers.specs.Whole.{whole_of, floor_of, ceil_of}
 use Rattle.roots.specs.Root.{sqrt_of, two_thirds_of, hypot_of}
 use Rattle.trig.specs.Trig as trig
-use Rattle.refusals.specs.Refusals.{number_of, end_of, Read, found, refused}
+use Rattle.refusals.specs.Refusals.{number_of, end_of, Read}
 use Rattle.spiral.specs.Util.{new_of, add_of, sub_of, mul_of, dot_of, length_of, length_squared_of, mix_of, angle_of, has_nan, eq_of, identity_of, apply_of}
 use Rattle.spiral.specs.Euler.{fitted_error, error_ratio, long_chord, from_points_derivs, from_angles}
 use Rattle.spiral.specs.declared.util.Vec2.{Vec2}
@@ -16,14 +16,13 @@ use Rattle.scene.specs.Words.{word_at}
 use Rattle.scene.specs.Tags.{tag_sums, plus, byte_at, sums_below, word_sums, tag_data, prefix_at, with_prefix, tag_in, tag_of, sums_before, prefixes, filled, scan_of}
 use Rattle.scene.specs.Reading.{i16_of, i16_point, point_words, point_at, line_cubic, point_count, raised, cubic_of, reaches, segment_of, floats_at, transform_of, all_finite, flags_of}
 use Rattle.scene.specs.declared.tags.PathTagData.{PathTagData}
-use Rattle.drawing.specs.Sheet.{lower_of, higher_of, empty_box, box_with, has_room, stored, draw_on, draw, draw_all}
+use Rattle.drawing.specs.Sheet.{IntBbox, lower_of, higher_of, empty_box, box_with, has_room, stored, draw_on, draw, draw_all}
 use Rattle.drawing.specs.Cubic.{cubic_point, cubic_deriv, cubic_at}
-use Rattle.drawing.specs.declared.line.IntBbox.{IntBbox}
 use Rattle.curve.specs.Fit.{is_short, first_tip, tip_at, params_of, multiplier_of, integrand_of, robust_of, n_frac_of, fit_of}
 use Rattle.curve.specs.Curve.{line_of, lines_of, range_of, range_end, tip_of, is_near, accepted, walk, is_point, side_events, device_side, euler_events}
 use Rattle.segment.specs.Segment.{fill_events, shape_events}
 use Rattle.flatten.specs.Boxes.{fresh_box, has_extent, marked_of, merged_of, changed_of, changed_at}
-use Rattle.flatten.specs.Tag.{◌>>=◌, boxed, head_at, finite_only, shape_at, events_by, events_at}
+use Rattle.flatten.specs.Tag.{boxed, head_at, finite_only, shape_at, events_by, events_at}
 use Rattle.flatten.specs.Step.{drawn_of, change_of, turn_of, refused_at, step_from_by, step_by}
 use Rattle.flatten.specs.Call.{first_turn, start_of, taken, answer_of, said, told_of, Outcome, outcome, call_of, after_by, call_by, onward_by}
 use Rattle.flatten.specs.Whose.{aside, set_aside}
@@ -68,8 +67,8 @@ scanned first = (scan_of (scene_from first) 0 (replicate 4096 0)).words
 
 -- a tag's data offset
 abbrev offset : Read PathTagData → List Value
-offset (found d) = nat d.monoid.pathseg_offset ∷ []
-offset (refused why) = []
+offset (Ok d) = nat d.monoid.pathseg_offset ∷ []
+offset (Err why) = []
 
 abbrev pub bases : Layout
 bases = record { n_wg = 1; tag_base = 0; data_base = 0x40; transform_base = 0x44; style_base = 0x4a }
@@ -131,7 +130,7 @@ its_call = record { layout = bases; scene = scene_from 0x20; prefixes = scanned 
 
 computed : (map (λ r. r.given) table ≡ map (λ r. r.measured) table) × (triangle 0x20 (fresh_box ∷ []) 3 ≡ drawn)
     × (map (λ i. length (drawn_at its_call i)) (2 ∷ 3 ∷ 4 ∷ []) ≡ 1 ∷ 1 ∷ 1 ∷ [])
-unfolding its_call drawn_at events_or table aside flatten of_bits of_int to_bits to_signed to_unsigned round neg add sub mul div lt le eq is_nan sign_of signed abs_of half_units half_fields half_of before max_of clamp_of whole_of floor_of ceil_of sqrt_of two_thirds_of hypot_of trig.bounded_of trig.sin_near trig.cos_near trig.reduced_of trig.curve_of trig.wave_of trig.sin_of trig.cos_of trig.angle_of trig.atan2_of add_of sub_of mul_of dot_of length_of length_squared_of mix_of angle_of has_nan eq_of identity_of apply_of fitted_error error_ratio long_chord from_points_derivs from_angles word_at tag_sums plus byte_at sums_below word_sums tag_data prefix_at with_prefix tag_in tag_of sums_before prefixes filled scan_of i16_of i16_point point_words point_at line_cubic point_count raised cubic_of reaches segment_of floats_at transform_of all_finite flags_of lower_of higher_of empty_box box_with has_room stored draw_on draw draw_all cubic_point cubic_deriv cubic_at is_short first_tip tip_at params_of multiplier_of integrand_of robust_of n_frac_of fit_of line_of lines_of range_of range_end tip_of is_near accepted walk is_point side_events device_side euler_events fill_events shape_events fresh_box has_extent marked_of merged_of changed_of changed_at ◌>>=◌ boxed head_at finite_only shape_at events_by events_at drawn_of change_of turn_of refused_at step_from_by step_by first_turn start_of taken onward_by after_by answer_of number_of end_of told_of call_by
+unfolding its_call drawn_at events_or table aside flatten of_bits of_int to_bits to_signed to_unsigned round neg add sub mul div lt le eq is_nan sign_of signed abs_of half_units half_fields half_of before max_of clamp_of whole_of floor_of ceil_of sqrt_of two_thirds_of hypot_of trig.bounded_of trig.sin_near trig.cos_near trig.reduced_of trig.curve_of trig.wave_of trig.sin_of trig.cos_of trig.angle_of trig.atan2_of add_of sub_of mul_of dot_of length_of length_squared_of mix_of angle_of has_nan eq_of identity_of apply_of fitted_error error_ratio long_chord from_points_derivs from_angles word_at tag_sums plus byte_at sums_below word_sums tag_data prefix_at with_prefix tag_in tag_of sums_before prefixes filled scan_of i16_of i16_point point_words point_at line_cubic point_count raised cubic_of reaches segment_of floats_at transform_of all_finite flags_of lower_of higher_of empty_box box_with has_room stored draw_on draw draw_all cubic_point cubic_deriv cubic_at is_short first_tip tip_at params_of multiplier_of integrand_of robust_of n_frac_of fit_of line_of lines_of range_of range_end tip_of is_near accepted walk is_point side_events device_side euler_events fill_events shape_events fresh_box has_extent marked_of merged_of changed_of changed_at boxed head_at finite_only shape_at events_by events_at drawn_of change_of turn_of refused_at step_from_by step_by first_turn start_of taken onward_by after_by answer_of number_of end_of told_of call_by
 computed = (refl, refl, refl)
 
 -- ---- the theorems

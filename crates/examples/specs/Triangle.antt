@@ -7,7 +7,7 @@ use Rattle.spiral.specs.Util.{eq_of}
 use Rattle.scene.specs.Words.{word_at}
 use Rattle.scene.specs.Tags.{tag_sums, plus, byte_at, sums_below, word_sums, tag_data, prefix_at, with_prefix, tag_in, tag_of, sums_before, prefixes, filled, scan_of}
 use Rattle.scene.specs.Reading.{i16_of, i16_point, point_words, point_at, flags_of}
-use Rattle.flatten.specs.Tag.{◌>>=◌, boxed, head_at}
+use Rattle.flatten.specs.Tag.{boxed, head_at}
 use Rattle.flatten.specs.Call.{Outcome}
 use Rattle.watertight.specs.Count.{starts, ends}
 use Rattle.watertight.specs.Fill.{outcome, Accepted, head_or, head_of, point_of, Each, Follows, Run, final, Closed, lines_of, stored}
@@ -27,7 +27,7 @@ its_acceptance = record { u32 = lit< tt; count = 3; answer = ap (λ (o : Outcome
 -- ---- tags 2, 3 and 4 are its lines, a closed run
 
 pub its_run : Run its_call 2 (3 ∷ 4 ∷ [])
-unfolding its_call Each Follows head_of head_or head_at boxed ◌>>=◌ tag_of tag_in with_prefix tag_data prefix_at sums_below word_sums sums_before prefixes filled scan_of plus tag_sums byte_at word_at flags_of point_of point_at i16_point i16_of point_words eq_of of_int eq round neg
+unfolding its_call Each Follows head_of head_or head_at boxed tag_of tag_in with_prefix tag_data prefix_at sums_below word_sums sums_before prefixes filled scan_of plus tag_sums byte_at word_at flags_of point_of point_at i16_point i16_of point_words eq_of of_int eq round neg
 its_run =
     record {
       z = 0x3f800000 ∷ 0 ∷ 0 ∷ 0x3f800000 ∷ 0 ∷ 0 ∷ [];
@@ -42,7 +42,7 @@ its_run =
     }
 
 pub its_end : Closed its_call 2 (3 ∷ 4 ∷ [])
-unfolding its_call final head_of head_or head_at boxed ◌>>=◌ tag_of tag_in with_prefix tag_data prefix_at sums_below word_sums sums_before prefixes filled scan_of plus tag_sums byte_at word_at flags_of point_of point_at i16_point i16_of point_words eq_of of_int eq round neg
+unfolding its_call final head_of head_or head_at boxed tag_of tag_in with_prefix tag_data prefix_at sums_below word_sums sums_before prefixes filled scan_of plus tag_sums byte_at word_at flags_of point_of point_at i16_point i16_of point_words eq_of of_int eq round neg
 its_end = tt
 
 -- ---- the theorems, applied

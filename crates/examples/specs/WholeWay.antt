@@ -1,5 +1,5 @@
 -- The whole way, computed: a drawing's text becomes its file for the knife table, of which the theorem of `whole_way` holds, and two refusals that leave the bytes alone. Assumes nothing.
-use Rattle.std.specs.Prelude.{ℕ, ◌≡◌, refl, false, replicate, pos}
+use Rattle.std.specs.Prelude.{ℕ, ◌≡◌, refl, false, replicate, pos, Ok}
 use Rattle.std.proofs.Common.{ap, subst, ◌∙◌}
 use mathlib.Core.List.{List, [], ◌∷◌, ◌++◌, flatten}
 use Rattle.std.specs.Float.Ieee.{of_bits, of_int, to_bits, to_signed, to_unsigned, round, neg, add, sub, mul, div, lt, le, eq, is_nan}
@@ -22,7 +22,7 @@ use Rattle.curve.specs.Fit.{is_short, first_tip, tip_at, params_of, multiplier_o
 use Rattle.curve.specs.Curve.{line_of, lines_of, range_of, range_end, tip_of, is_near, accepted, walk, is_point, side_events, device_side, euler_events}
 use Rattle.segment.specs.Segment.{fill_events, shape_events}
 use Rattle.flatten.specs.Boxes.{fresh_box, has_extent, marked_of, merged_of, changed_of, changed_at}
-use Rattle.flatten.specs.Tag.{◌>>=◌, boxed, head_at, finite_only, shape_at, events_by, events_at}
+use Rattle.flatten.specs.Tag.{boxed, head_at, finite_only, shape_at, events_by, events_at}
 use Rattle.flatten.specs.Step.{drawn_of, change_of, turn_of, refused_at, step_from_by, step_by}
 use Rattle.flatten.specs.Call.{first_turn, start_of, taken, answer_of, told_of, after_by, call_by, onward_by}
 use Rattle.pattern.specs.Commands as commands
@@ -37,7 +37,7 @@ use Rattle.svg.specs.Unique.{one_meaning}
 use Rattle.svg.specs.Meaning as svg
 use Rattle.svg.specs.Import as import
 use Rattle.svg.specs.declared.steps.Kind.TheVariants.{Move, Line}
-use Rattle.svg.specs.declared.steps.Verdict.TheVariants.{Accepted}
+use Rattle.svg.specs.Machine.{Accepted}
 use Rattle.outlines.specs.Flattened.{cubic_from, drawn_by, drawn_along, flattened}
 use Rattle.profile.specs.Reads.{rest_by, read_at}
 use Rattle.profile.specs.Rules as rules
@@ -50,10 +50,9 @@ use Rattle.closed_cuts.specs.Closed.{rounded}
 use Rattle.hpgl.specs.declared.Point.{Point}
 use Rattle.hpgl.specs.declared.Table.TheVariants.{New}
 use Rattle.cut.specs.Sheet.{six_of, tag_bytes, tag_word, packed, groups, tag_words, sheet_of, layout_by, size_of, size_told, fits, lay_of}
-use Rattle.cut.specs.Stages.{export_stage, flatten_stage, profile_stage, scan_stage, laid_by, sheet_stage, Gone, cut_of}
-use Rattle.cut.specs.declared.sheet.Six.{Six}
+use Rattle.cut.specs.Stages.{refused, export_stage, flatten_stage, profile_stage, scan_stage, laid_by, sheet_stage, Gone, cut_of}
+use Rattle.svg.specs.declared.hand.Six.{Six}
 use Rattle.cut.specs.declared.Stage.TheVariants.{Profile, Export}
-use Rattle.cut.specs.declared.Answer.TheVariants.{Whole, Refused}
 use Rattle.whole_way.specs.Promise.{cut_lines, Promise}
 use Rattle.whole_way.specs.Stages.{refused_leaves}
 use Rattle.whole_way.proofs.WholeWay.{whole_way}
@@ -83,13 +82,13 @@ file = 73 ∷ 78 ∷ 59 ∷ 80 ∷ 85 ∷ 48 ∷ 44 ∷ 48 ∷ 59 ∷ 80 ∷ 68 
 -- ---- computed
 
 -- the file with the three bytes behind it as lent; with a byte too few; with a shear
-computed : ((way unit 30).behind.answer ≡ Whole 27) × ((way unit 30).behind.bytes ≡ file ++ replicate 3 255)
-    × ((way unit 26).behind.answer ≡ Refused Export 31 2) × ((way shear 30).behind.answer ≡ Refused Profile 73 2)
-unfolding cut_of sheet_stage laid_by scan_stage profile_stage flatten_stage export_stage size_of size_told fits lay_of layout_by sheet_of tag_words groups packed tag_word tag_bytes import.report_of import.import_of import.import_from svg.all_of symbols runs to_bits decimal_of commands.same commands.words_of commands.floats_of commands.spots commands.target commands.tag_of commands.finishing commands.start_of commands.ink_of commands.place_of commands.ended commands.fits commands.number_of commands.written commands.inked commands.may_draw commands.named commands.command_of profile.first profile.unread_or profile.against_or profile.started_by profile.rules_of profile.profile_of profile.number_of profile.told_of rest_by read_at once rules.head_or rules.head_of rules.six_at rules.same_words rules.is_zero rules.straight rules.aligned_to rules.point_of rules.segments rules.subpaths rules.open_at rules.beginning rules.leading rules.facts_at rules.broken70 rules.broken71 rules.broken72 rules.broken73 rules.broken74 rules.broken75 rules.unless rules.rule_of export.cut_report export.look_of export.answer_of export.export_of export.export_from export.put_line export.put export.goes_on form.command form.range_of numeral decimal digits rounding.point_of rounding.rounded_of rounding.is_good rounding.is_within signed_of flatten of_bits of_int to_signed to_unsigned round neg add sub mul div lt le eq is_nan sign_of signed abs_of before max_of clamp_of whole_of floor_of ceil_of sqrt_of two_thirds_of hypot_of trig.bounded_of trig.sin_near trig.cos_near trig.reduced_of trig.curve_of trig.wave_of trig.sin_of trig.cos_of trig.angle_of trig.atan2_of add_of sub_of mul_of dot_of length_of length_squared_of mix_of angle_of has_nan eq_of identity_of apply_of fitted_error error_ratio long_chord from_points_derivs from_angles word_at tag_sums plus byte_at sums_below word_sums tag_data prefix_at with_prefix tag_in tag_of sums_before tag.prefixes filled scan_of f32_point point_words point_at line_cubic point_count raised cubic_of reaches segment_of floats_at transform_of all_finite flags_of lower_of higher_of empty_box box_with has_room stored draw_on draw draw_all cubic_point cubic_deriv cubic_at is_short first_tip tip_at params_of multiplier_of integrand_of robust_of n_frac_of fit_of line_of lines_of range_of range_end tip_of is_near accepted walk is_point side_events device_side euler_events fill_events shape_events fresh_box has_extent marked_of merged_of changed_of changed_at ◌>>=◌ boxed head_at finite_only shape_at events_by events_at drawn_of change_of turn_of refused_at step_from_by step_by first_turn start_of taken onward_by after_by answer_of number_of end_of told_of call_by
+computed : ((way unit 30).behind.answer ≡ Ok 27) × ((way unit 30).behind.bytes ≡ file ++ replicate 3 255)
+    × ((way unit 26).behind.answer ≡ refused Export 31 2) × ((way shear 30).behind.answer ≡ refused Profile 73 2)
+unfolding cut_of sheet_stage laid_by scan_stage profile_stage flatten_stage export_stage size_of size_told fits lay_of layout_by sheet_of tag_words groups packed tag_word tag_bytes import.report_of import.import_of import.import_from svg.all_of symbols runs to_bits decimal_of commands.same commands.words_of commands.floats_of commands.spots commands.target commands.tag_of commands.finishing commands.start_of commands.ink_of commands.place_of commands.ended commands.fits commands.number_of commands.written commands.inked commands.may_draw commands.named commands.command_of profile.first profile.unread_or profile.against_or profile.started_by profile.rules_of profile.profile_of profile.number_of profile.told_of rest_by read_at once rules.head_or rules.head_of rules.six_at rules.same_words rules.is_zero rules.straight rules.aligned_to rules.point_of rules.segments rules.subpaths rules.open_at rules.beginning rules.leading rules.facts_at rules.broken70 rules.broken71 rules.broken72 rules.broken73 rules.broken74 rules.broken75 rules.unless rules.rule_of export.cut_report export.look_of export.answer_of export.export_of export.export_from export.put_line export.put export.goes_on form.command form.range_of numeral decimal digits rounding.point_of rounding.rounded_of rounding.is_good rounding.is_within signed_of flatten of_bits of_int to_signed to_unsigned round neg add sub mul div lt le eq is_nan sign_of signed abs_of before max_of clamp_of whole_of floor_of ceil_of sqrt_of two_thirds_of hypot_of trig.bounded_of trig.sin_near trig.cos_near trig.reduced_of trig.curve_of trig.wave_of trig.sin_of trig.cos_of trig.angle_of trig.atan2_of add_of sub_of mul_of dot_of length_of length_squared_of mix_of angle_of has_nan eq_of identity_of apply_of fitted_error error_ratio long_chord from_points_derivs from_angles word_at tag_sums plus byte_at sums_below word_sums tag_data prefix_at with_prefix tag_in tag_of sums_before tag.prefixes filled scan_of f32_point point_words point_at line_cubic point_count raised cubic_of reaches segment_of floats_at transform_of all_finite flags_of lower_of higher_of empty_box box_with has_room stored draw_on draw draw_all cubic_point cubic_deriv cubic_at is_short first_tip tip_at params_of multiplier_of integrand_of robust_of n_frac_of fit_of line_of lines_of range_of range_end tip_of is_near accepted walk is_point side_events device_side euler_events fill_events shape_events fresh_box has_extent marked_of merged_of changed_of changed_at boxed head_at finite_only shape_at events_by events_at drawn_of change_of turn_of refused_at step_from_by step_by first_turn start_of taken onward_by after_by answer_of number_of end_of told_of call_by profile.fault_number
 computed = (refl, refl, refl, refl)
 
 -- the text is accepted, and its file has 27 bytes
-pub its_answer : (way unit 30).behind.answer ≡ Whole 27
+pub its_answer : (way unit 30).behind.answer ≡ Ok 27
 its_answer = computed.0
 
 -- byte for byte, and what was lent behind it is untouched
@@ -151,14 +150,14 @@ its_lines = its_promise.lines ∙ ap (cut_lines (six_of unit)) its_commands ∙ 
 -- ---- refused
 
 -- with room for 26 bytes: 31 at its third line, and no part of a file is written
-pub no_room_lem : ((way unit 26).behind.answer ≡ Refused Export 31 2) × ((way unit 26).behind.bytes ≡ replicate 26 255)
+pub no_room_lem : ((way unit 26).behind.answer ≡ refused Export 31 2) × ((way unit 26).behind.bytes ≡ replicate 26 255)
 no_room_lem = (
   computed.2,
   refused_leaves text (six_of unit) New (replicate 3 0) (replicate 8 0) (replicate 80 0) (replicate 256 0) (replicate 18 0) (replicate 26 255) Export 31 2 computed.2,
 )
 
 -- with a shear: 73 at its first segment, and nothing is written
-pub sheared : ((way shear 30).behind.answer ≡ Refused Profile 73 2) × ((way shear 30).behind.bytes ≡ replicate 30 255)
+pub sheared : ((way shear 30).behind.answer ≡ refused Profile 73 2) × ((way shear 30).behind.bytes ≡ replicate 30 255)
 sheared = (
   computed.3,
   refused_leaves text (six_of shear) New (replicate 3 0) (replicate 8 0) (replicate 80 0) (replicate 256 0) (replicate 18 0) (replicate 30 255) Profile 73 2 computed.3,

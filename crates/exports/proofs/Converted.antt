@@ -2,9 +2,8 @@
 use Prim.Native.Nat.{ℕ}
 use mathlib.Core.Path.{◌≡◌, ap, ◌∙◌}
 use mathlib.Core.List.{List}
-use Rattle.sheets.specs.Written.{told_of, Left, leaves, left}
+use Rattle.sheets.specs.Written.{Moved, told_of, Left, leaves, left}
 use Rattle.sheets.specs.declared.sheet.Told.{Told}
-use Rattle.sheets.specs.declared.sheet.Moved.{Moved}
 use Rattle.exports.specs.Convert.{three_of, moved, moved_of}
 
 pub reported : (r : Moved) (t : Told) (os : List ℕ) {ts ws os' : List ℕ} (l : Left) → left r ts ws ≡ l → t ≡ told_of r → os' ≡ three_of t.tags t.words t.at os

@@ -2,9 +2,8 @@
 use Prim.Native.Nat.{ℕ}
 use mathlib.Core.Path.{◌≡◌, ap, ◌∙◌}
 use mathlib.Core.List.{List}
-use Rattle.profile.specs.Verdict.{told_of}
+use Rattle.profile.specs.Verdict.{Verdict, told_of}
 use Rattle.profile.specs.declared.sheet.Told.{Told}
-use Rattle.profile.specs.declared.sheet.Verdict.{Verdict}
 use Rattle.exports.specs.Convert.{three_of}
 use Rattle.exports.specs.Profile.{profiled, profiled_of}
 

@@ -4,10 +4,9 @@ use mathlib.Core.Path.{◌≡◌, ap, ◌∙◌}
 use mathlib.Core.List.{List}
 use Rattle.hpgl.specs.declared.Table.{Table}
 use Rattle.cut.specs.Sheet.{six_of}
-use Rattle.cut.specs.Stages.{report_of, Gone, gone, left, cut_of}
-use Rattle.cut.specs.declared.Answer.{Answer}
+use Rattle.cut.specs.Stages.{Answer, report_of, Gone, gone, left, cut_of}
 use Rattle.cut.specs.declared.Report.{Report}
-use Rattle.cut.specs.declared.sheet.Six.{Six}
+use Rattle.svg.specs.declared.hand.Six.{Six}
 use Rattle.exports.specs.Convert.{three_of}
 use Rattle.exports.specs.Whole.{whole, whole_of}
 

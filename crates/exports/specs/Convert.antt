@@ -1,13 +1,11 @@
 -- A sheet moved to f32 points, or back, as C sees it: tags and points in, a number out, and three words. Definitions only.
 use Rattle.std.specs.Prelude.{ℕ, List, [], ◌∷◌}
+use Rattle.exports.specs.Out.{told_in}
 use Rattle.sheets.specs.Written.{Left}
 
 -- three words are written, where there are three
-unfoldable pub three_of : ℕ → ℕ → ℕ → List ℕ → List ℕ
-three_of a b c [] = []
-three_of a b c (d ∷ []) = d ∷ []
-three_of a b c (d ∷ e ∷ []) = d ∷ e ∷ []
-three_of a b c (d ∷ e ∷ f ∷ ws) = a ∷ b ∷ c ∷ ws
+abbrev pub three_of : ℕ → ℕ → ℕ → List ℕ → List ℕ
+three_of a b c = told_in (a ∷ b ∷ c ∷ [])
 
 -- the number returned, the lent buffers, and `out`
 pub record SheetReport : Type 0 where

@@ -1,8 +1,8 @@
 -- Importing path data as C sees it: a pen of seven words, a number out, and the lists that are lent to be written. Definitions only.
-use Rattle.std.specs.Prelude.{ℕ, cond, List, ltb, length}
+use Rattle.std.specs.Prelude.{ℕ, cond, List, ltb, length, Err}
 use Rattle.std.proofs.lemmas.List.Edits.{sets}
 use Rattle.pattern.specs.Commands.{number_of}
-use Rattle.pattern.specs.declared.pen.Answer.TheVariants.{NoRoom}
+use Rattle.pattern.specs.declared.pen.Fault.TheVariants.{NoRoom}
 use Rattle.svg.specs.Import.{Told, report_of, import_of}
 use Rattle.exports.specs.Pen.{pen_read, pen_words}
 use Rattle.exports.specs.Scan.{first_of}
@@ -26,4 +26,4 @@ imported_of t ws os =
 -- 21, before all else, where the pen's seven words are not lent
 unfoldable pub imported_by : List ℕ → List ℕ → List ℕ → List ℕ → List ℕ → Imported
 imported_by ws bs tags points os =
-    cond (ltb (length ws) 7) (imported (number_of NoRoom) ws tags points (first_of 0 os)) (imported_of (import_of bs (pen_read ws) tags points) ws os)
+    cond (ltb (length ws) 7) (imported (number_of (Err NoRoom)) ws tags points (first_of 0 os)) (imported_of (import_of bs (pen_read ws) tags points) ws os)

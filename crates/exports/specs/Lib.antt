@@ -1,3 +1,4 @@
+pub mod Out
 pub mod Call
 pub mod Scan
 pub mod Convert

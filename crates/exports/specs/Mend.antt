@@ -1,7 +1,6 @@
 -- The mending of a list as C sees it: a list and a number in, a number out, and what is lent to be written. Definitions only.
 use Rattle.std.specs.Prelude.{ℕ, ◌≡◌, List}
-use Rattle.mender.specs.Report.{Lent, Mends, told_of}
-use Rattle.mender.specs.declared.list.Outcome.{Outcome}
+use Rattle.mender.specs.Report.{Outcome, Lent, Mends, told_of}
 use Rattle.exports.specs.Check.{two_of}
 
 -- the number returned, and the room, the report and `out` before and after

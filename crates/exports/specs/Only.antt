@@ -1,5 +1,5 @@
 -- No second number satisfies the contract of a function of the C interface, nor second contents of the lists that it may write. Assumes nothing.
-use Rattle.std.specs.Prelude.{ℕ, ◌≡◌, List, length, ℤ, Float}
+use Rattle.std.specs.Prelude.{Result, ℕ, ◌≡◌, List, length, ℤ, Float}
 use Rattle.std.proofs.Common.{◌∙◌, sym, ap}
 use Rattle.laws.specs.Only.{Only, determined}
 use Rattle.maths.specs.Numbers.{half_of}
@@ -19,9 +19,9 @@ use Rattle.exports.specs.Whole.{whole, whole_of}
 use Rattle.exports.specs.Cut.{table_of, written, written_of, lines_read, lines_read_of}
 use Rattle.checker.specs.Verdict.{told_of}
 use Rattle.checker.specs.Only.{check_only}
-use Rattle.mender.specs.Report.{Lent as MendLent, told_of as mendTold}
+use Rattle.mender.specs.Report.{Outcome, Lent as MendLent, told_of as mendTold}
 use Rattle.mender.specs.Only.{mend_only}
-use Rattle.mender.specs.declared.list.Outcome.{Outcome}
+use Rattle.checker.specs.declared.CheckError.{CheckError}
 use Rattle.checker.specs.declared.Verdict.{Verdict}
 use Rattle.exports.specs.Mend.{MendedBy}
 use Rattle.exports.specs.Check.{two_of, Checked}
@@ -75,8 +75,8 @@ hinth_half_only word = determined (half_of word)
 pub hinth_check_only : (list os : List ℕ) → Only (λ (r : ℕ × List ℕ). Checked list os r.0 r.1)
 hinth_check_only list os r s p q =
     let v = check_only list p.verdict q.verdict p.answers q.answers in
-    let number = p.returned ∙ ap (λ (v : Verdict). (told_of v).number) v ∙ sym q.returned in
-    let out = p.written ∙ ap (λ (v : Verdict). two_of (told_of v).verdict (told_of v).«record» os) v ∙ sym q.written in
+    let number = p.returned ∙ ap (λ (v : Result Verdict CheckError). (told_of v).number) v ∙ sym q.returned in
+    let out = p.written ∙ ap (λ (v : Result Verdict CheckError). two_of (told_of v).verdict (told_of v).«record» os) v ∙ sym q.written in
     λ i. (number i, out i)
 
 pub hinth_to_f32_only : (tags points ts ws os : List ℕ)

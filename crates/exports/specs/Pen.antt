@@ -1,5 +1,5 @@
 -- The commands as C sees them: a pen of seven words, coordinates as f32, a number out, and three lists. Definitions only.
-use Rattle.std.specs.Prelude.{ℕ, zero, suc, ◌+◌, ◌%◌, ◌^◌, cond, List, [], ◌∷◌, ltb, length, get_or, Float}
+use Rattle.std.specs.Prelude.{ℕ, zero, suc, ◌+◌, ◌%◌, ◌^◌, cond, List, [], ◌∷◌, ltb, length, get_or, Float, Err}
 use Rattle.std.proofs.lemmas.List.Edits.{sets}
 use Rattle.std.specs.Float.{binary32}
 use Rattle.std.specs.Float.Ieee.{to_bits}
@@ -8,7 +8,7 @@ use Rattle.pattern.specs.declared.pen.Spot.{Spot}
 use Rattle.pattern.specs.declared.pen.Open.{Open}
 use Rattle.pattern.specs.declared.pen.Open.TheVariants.{Nothing, Moved, Drawing}
 use Rattle.pattern.specs.declared.pen.Pen.{Pen}
-use Rattle.pattern.specs.declared.pen.Answer.TheVariants.{NoRoom}
+use Rattle.pattern.specs.declared.pen.Fault.TheVariants.{NoRoom}
 
 -- ---- the pen
 
@@ -56,9 +56,9 @@ abbrev pub penned : ℕ → List ℕ → List ℕ → List ℕ → Penned
 penned r ws tags points = record { number = r; pen = ws; tags = tags; points = points }
 
 abbrev pub penned_of : Outcome → List ℕ → Penned
-penned_of o ws = penned o.number (kept_by o.number o.pen ws) o.tags o.points
+penned_of o ws = penned (number_of o.answer) (kept_by (number_of o.answer) o.pen ws) o.tags o.points
 
 -- 21, before all else, where the pen's seven words are not lent
 unfoldable pub penned_by : List ℕ → Command → List ℕ → List ℕ → Penned
 penned_by ws command tags points =
-    cond (ltb (length ws) 7) (penned (number_of NoRoom) ws tags points) (penned_of (command_of (pen_read ws) command tags points) ws)
+    cond (ltb (length ws) 7) (penned (number_of (Err NoRoom)) ws tags points) (penned_of (command_of (pen_read ws) command tags points) ws)

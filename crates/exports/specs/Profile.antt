@@ -1,7 +1,6 @@
 -- The profile as C sees it: numbers and two lists in, a number out, and three words. Definitions only.
 use Rattle.std.specs.Prelude.{ℕ, List}
-use Rattle.profile.specs.Verdict.{told_of}
-use Rattle.profile.specs.declared.sheet.Verdict.{Verdict}
+use Rattle.profile.specs.Verdict.{Verdict, told_of}
 use Rattle.exports.specs.Convert.{three_of}
 
 -- the number returned, and `out`

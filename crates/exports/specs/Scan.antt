@@ -1,11 +1,11 @@
 -- The scan as C sees it: numbers in, a number out, and three lists. Definitions only.
 use Rattle.std.specs.Prelude.{ℕ, List, [], ◌∷◌}
+use Rattle.exports.specs.Out.{told_in}
 use Rattle.scene.specs.Tags.{Scan}
 
 -- the first word takes the count, where there is one
-unfoldable pub first_of : ℕ → List ℕ → List ℕ
-first_of count [] = []
-first_of count (a ∷ ws) = count ∷ ws
+abbrev pub first_of : ℕ → List ℕ → List ℕ
+first_of count = told_in (count ∷ [])
 
 -- the number returned, and the lists that are lent to be written
 pub record Scanned : Type 0 where

@@ -3,7 +3,7 @@ use Rattle.std.specs.Prelude.{ℕ, List, Float}
 use Rattle.std.specs.Float.{binary32}
 use Rattle.std.specs.Float.Ieee.{to_bits}
 use Rattle.cut.specs.Stages.{report_of, Gone}
-use Rattle.cut.specs.declared.sheet.Six.{Six}
+use Rattle.svg.specs.declared.hand.Six.{Six}
 use Rattle.exports.specs.Convert.{three_of}
 
 -- the words of six numbers

@@ -2,20 +2,10 @@
 ghost use Rattle.std.specs.Prelude.{◌≡◌, length};
 ghost use Rattle.sheets.specs.Moving.{to_f32, to_i16};
 ghost use Rattle.sheets.specs.Written.{stored};
-ghost use Rattle.exports.specs.Convert.{three_of, moved, moved_of};
+ghost use Rattle.exports.specs.Convert.{moved, moved_of};
 
-use sheets::sheet::{to_f32, to_i16};
-
-// Nothing is written where there is no room for all three.
-pub(crate) fn put_three(out: &mut [u64], first: u64, second: u64, third: u64)
-    ensures { out.new ≡ three_of first second third out.old }
-{
-    if 2 < out.len() {
-        out[0] = first;
-        out[1] = second;
-        out[2] = third;
-    }
-}
+use crate::out::put_told;
+use sheets::sheet::{Told, to_f32, to_i16};
 
 #[unsafe(no_mangle)]
 pub extern "C" fn hinth_to_f32(
@@ -30,8 +20,8 @@ pub extern "C" fn hinth_to_f32(
         (stored (to_f32 tags.now points.now (length new_tags.old) (length new_points.old)) new_tags.old new_points.old)
         out.old }
 {
-    let told = to_f32(tags, points, new_tags, new_points).told();
-    put_three(out, told.tags, told.words, told.at);
+    let told = Told::from(to_f32(tags, points, new_tags, new_points));
+    put_told(out, [told.tags, told.words, told.at]);
     told.number
 }
 
@@ -48,7 +38,7 @@ pub extern "C" fn hinth_to_i16(
         (stored (to_i16 tags.now points.now (length old_tags.old) (length old_points.old)) old_tags.old old_points.old)
         out.old }
 {
-    let back = to_i16(tags, points, old_tags, old_points).told();
-    put_three(out, back.tags, back.words, back.at);
+    let back = Told::from(to_i16(tags, points, old_tags, old_points));
+    put_told(out, [back.tags, back.words, back.at]);
     back.number
 }

@@ -2,10 +2,10 @@
 ghost use Rattle.std.specs.Prelude.{◌≡◌};
 ghost use Rattle.exports.specs.Import.{imported, imported_by};
 
+use crate::out::put_told;
 use crate::pen::{put_pen, read_pen};
-use crate::scan::put_first;
-use pattern::pen::Answer;
-use svg::reader::read;
+use pattern::pen::Fault;
+use svg::reader::{Report, read};
 
 #[unsafe(no_mangle)]
 pub extern "C" fn hinth_import(
@@ -19,15 +19,21 @@ pub extern "C" fn hinth_import(
         ≡ imported_by pen.old text.now tags.old points.old out.old }
 {
     if pen.len() < 7 {
-        put_first(out, 0);
-        let answer = Answer::NoRoom;
-        return answer.number();
+        put_told(out, [0]);
+        return Fault::NoRoom.number();
     }
-    let done = read(text, read_pen(pen), tags, points);
-    let ending = done.ending;
-    let then = done.pen;
-    let report = ending.report();
+    let mut then = read_pen(pen);
+    let answer = read(text, &mut then, tags, points);
     put_pen(pen, then);
-    put_first(out, report.at as u64);
-    report.number
+    match answer {
+        Ok(()) => {
+            put_told(out, [0]);
+            0
+        }
+        Err(refusal) => {
+            let report = Report::from(refusal);
+            put_told(out, [report.at as u64]);
+            report.number
+        }
+    }
 }

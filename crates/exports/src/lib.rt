@@ -13,6 +13,7 @@ pub mod convert;
 pub mod cutting;
 pub mod import;
 pub mod mending;
+mod out;
 pub mod pen;
 pub mod profiling;
 pub mod scan;

@@ -2,8 +2,8 @@
 ghost use Rattle.mender.specs.Report.{lent};
 ghost use Rattle.exports.specs.Mend.{MendedBy};
 
-use crate::check::put_two;
-use mender::list::mend;
+use crate::out::put_told;
+use mender::list::{Told, mend};
 
 #[unsafe(no_mangle)]
 pub extern "C" fn hinth_mend(
@@ -16,7 +16,7 @@ pub extern "C" fn hinth_mend(
     ensures { MendedBy list.now within (lent room.old report.old) out.old
         result (lent room.new report.new) out.new }
 {
-    let told = mend(list, within, room, report).told();
-    put_two(out, told.first as u64, told.second as u64);
+    let told = Told::from(mend(list, within, room, report));
+    put_told(out, [told.first as u64, told.second as u64]);
     told.number
 }

@@ -1,12 +1,13 @@
 // The commands of `pattern`. The pen is lent as seven words: what is open (0 nothing, 1 moved, 2 drawing), the words of its
 // first and of its last point, and how many tags and point words are written. Seven zeros are a fresh pen.
-ghost use Rattle.std.specs.Prelude.{◌≡◌, ◌≤◌, length};
+ghost use Rattle.std.specs.Prelude.{◌≡◌, ◌≤◌, ℕ, List, length};
 ghost use Rattle.std.proofs.lemmas.List.Edits.{sets};
-ghost use Rattle.pattern.specs.Commands.{number_of, line, quad, cubic, move, draw, end};
-ghost use Rattle.exports.specs.Pen.{open_of, open_word, spot_of, spot_at, pen_read, pen_words, kept_by, penned, penned_by};
+ghost use Rattle.pattern.specs.Commands.{told, line, quad, cubic, move, draw, end};
+ghost use Rattle.pattern.specs.declared.pen.Pen.{Pen};
+ghost use Rattle.exports.specs.Pen.{open_of, open_word, spot_of, spot_at, pen_read, pen_words, penned, penned_of, penned_by};
 
 use pattern::commands;
-use pattern::pen::{Answer, Drew, Open, Pen, Place, Spot};
+use pattern::pen::{Fault, Open, Pen, Place, Spot};
 
 fn open_of(word: u64) -> Open
     ensures { result ≡ open_of word }
@@ -78,18 +79,18 @@ pub(crate) fn put_pen(words: &mut [u64], pen: Pen)
 }
 
 // The answer's number. After a refusal the pen's words stay as they are.
-fn keep_pen(drew: Drew, words: &mut [u64]) -> u32
+fn keep_pen(drew: Result<Pen, Fault>, words: &mut [u64]) -> u32
     requires { 7 ≤ length words.old }
-    ensures { (result ≡ number_of drew.answer) × (words.new ≡ kept_by (number_of drew.answer) drew.pen words.old) }
+    ensures { (pen : Pen) (tags points : List ℕ)
+        → penned result words.new tags points ≡ penned_of (told drew pen tags points) words.old }
 {
-    let answer = drew.answer;
-    let pen = drew.pen;
-    let number = answer.number();
-    if number == 0 {
-        put_pen(words, pen);
-        return number;
+    match drew {
+        Ok(pen) => {
+            put_pen(words, pen);
+            0
+        }
+        Err(fault) => fault.number(),
     }
-    number
 }
 
 fn spot_of(x: f32, y: f32) -> Spot
@@ -113,8 +114,7 @@ pub extern "C" fn hinth_move(
         ≡ penned_by pen.old (move (spot_of x y)) tags.old points.old }
 {
     if pen.len() < 7 {
-        let answer = Answer::NoRoom;
-        return answer.number();
+        return Fault::NoRoom.number();
     }
     let drew = commands::move_to(read_pen(pen), spot_of(x, y), tags, points);
     keep_pen(drew, pen)
@@ -132,8 +132,7 @@ pub extern "C" fn hinth_line(
         ≡ penned_by pen.old (draw (line (spot_of x y))) tags.old points.old }
 {
     if pen.len() < 7 {
-        let answer = Answer::NoRoom;
-        return answer.number();
+        return Fault::NoRoom.number();
     }
     let drew = commands::line_to(read_pen(pen), spot_of(x, y), tags, points);
     keep_pen(drew, pen)
@@ -153,8 +152,7 @@ pub extern "C" fn hinth_quad(
         ≡ penned_by pen.old (draw (quad (spot_of x1 y1) (spot_of x y))) tags.old points.old }
 {
     if pen.len() < 7 {
-        let answer = Answer::NoRoom;
-        return answer.number();
+        return Fault::NoRoom.number();
     }
     let by = spot_of(x1, y1);
     let to = spot_of(x, y);
@@ -178,8 +176,7 @@ pub extern "C" fn hinth_cubic(
         ≡ penned_by pen.old (draw (cubic (spot_of x1 y1) (spot_of x2 y2) (spot_of x y))) tags.old points.old }
 {
     if pen.len() < 7 {
-        let answer = Answer::NoRoom;
-        return answer.number();
+        return Fault::NoRoom.number();
     }
     let from = spot_of(x1, y1);
     let by = spot_of(x2, y2);
@@ -194,8 +191,7 @@ pub extern "C" fn hinth_end(pen: &mut [u64], tags: &mut [u8], points: &mut [u32]
         ≡ penned_by pen.old end tags.old points.old }
 {
     if pen.len() < 7 {
-        let answer = Answer::NoRoom;
-        return answer.number();
+        return Fault::NoRoom.number();
     }
     let drew = commands::end(read_pen(pen), tags, points);
     keep_pen(drew, pen)

@@ -5,9 +5,9 @@ ghost use Rattle.profile.specs.Verdict.{profile_of};
 ghost use Rattle.exports.specs.Call.{layout_of};
 ghost use Rattle.exports.specs.Profile.{profiled, profiled_of};
 
-use crate::convert::put_three;
+use crate::out::put_told;
 use flatten::call::Layout;
-use profile::sheet::test_scene;
+use profile::sheet::{Told, test_scene};
 
 #[unsafe(no_mangle)]
 pub extern "C" fn hinth_profile(
@@ -32,7 +32,7 @@ pub extern "C" fn hinth_profile(
         transform_base,
         style_base,
     };
-    let told = test_scene(layout, scene, prefixes).told();
-    put_three(out, told.tag, told.segments, told.subpaths);
+    let told = Told::from(test_scene(layout, scene, prefixes));
+    put_told(out, [told.tag, told.segments, told.subpaths]);
     told.number
 }

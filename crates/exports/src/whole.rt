@@ -5,10 +5,11 @@ ghost use Rattle.cut.specs.Stages.{cut_of};
 ghost use Rattle.exports.specs.Cut.{table_of};
 ghost use Rattle.exports.specs.Whole.{six_by, whole, whole_of};
 
-use crate::convert::put_three;
 use crate::cutting::table_of;
-use cut::sheet::Six;
+use crate::out::put_told;
+use cut::Report;
 use cut::way::cut;
+use svg::hand::Six;
 
 fn six_of(a: f32, b: f32, c: f32, d: f32, e: f32, f: f32) -> Six
     ensures { result ≡ six_by a b c d e f }
@@ -51,7 +52,7 @@ pub extern "C" fn hinth_cut_text(
     let answer = cut(
         text, six, table, tags, points, scene, prefixes, lines, bytes,
     );
-    let report = answer.report();
-    put_three(out, report.bytes as u64, report.stage as u64, report.at);
+    let report = Report::from(answer);
+    put_told(out, [report.bytes as u64, report.stage as u64, report.at]);
     report.number
 }

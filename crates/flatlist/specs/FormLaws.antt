@@ -1,71 +1,84 @@
 -- What holds of a sheet: how many words a good one has, and that 9,271 bytes of a text are enough to tell. Assumes nothing.
-use Rattle.std.specs.Prelude.{ℕ, zero, suc, ◌+◌, ◌-◌, ◌*◌, ◌≤◌, ◌<◌, ◌≡◌, refl, Bool, true, false, cond, List, [], ◌∷◌, ◌++◌, eqb, leb, ltb, length, get_or, take, replicate}
+use Rattle.std.specs.Prelude.{ℕ, zero, suc, ◌+◌, ◌-◌, ◌*◌, ◌≤◌, ◌<◌, ◌≡◌, refl, Bool, true, false, cond, List, [], ◌∷◌, ◌++◌, eqb, leb, ltb, length, get_or, take, replicate, Option, Some, None}
 use Rattle.std.proofs.Common.{sym, ap, ◌∙◌, subst, arith, ltb-false, leb-true, leb-false, eqb-true, take_all, length-take-le}
-use Rattle.std.proofs.lemmas.Bool.{false≢true, lt-leb}
-use Rattle.flatlist.specs.Form.{digit_of, Words, found, none, behind, words_from, bad_sheet, good_sheet, placed, judged, sheet_of}
+use Rattle.std.proofs.lemmas.Bool.{lt-leb}
+use Rattle.std.specs.Option.{option_and_then}
+use Rattle.flatlist.specs.Form.{digit_of, Words, behind, words_from, good_sheet, placed, judged_by, judged, sheet_of}
 use Rattle.flatlist.specs.declared.input.Sheet.{Sheet}
 
 -- ---- a good sheet has its six words, and at most 1,024 behind them
 
-placed_few : (r : Words) → (placed r).count ≤ 1030
-unfolding placed bad_sheet
-placed_few none = omega arith
-placed_few (found ws) = go (leb (length ws) 1030) refl
-  where
-    go : (b : Bool) → leb (length ws) 1030 ≡ b → (cond b (good_sheet (ws ++ replicate (1030 - length ws) 0) (length ws)) bad_sheet).count ≤ 1030
-    go true e = leb-true (length ws) 1030 e
-    go false e = omega arith
+none_some : (s : Sheet) → ◌≡◌ {A = Option Sheet} None (Some s) → ⊥
+none_some s h = let z : ◌≡◌ {A = ℕ} 0 1 = cc in omega arith
 
-judged_good : (s : Sheet) → (judged s).good ≡ true → (judged s ≡ s) × (6 ≤ s.count)
-unfolding judged bad_sheet
-judged_good s = go (ltb s.count 6) (ltb 16 (get_or s.words 5 0)) refl
+placed_few : (r : Words) (s : Sheet) → placed r ≡ Some s → s.count ≤ 1030
+unfolding placed
+placed_few None s h = absurd (none_some s h)
+placed_few (Some ws) s h = go (leb (length ws) 1030) refl h
   where
-    go : (a b : Bool) → ltb s.count 6 ≡ a → (cond a bad_sheet (cond b bad_sheet s)).good ≡ true → (cond a bad_sheet (cond b bad_sheet s) ≡ s) × (6 ≤ s.count)
-    go true b e h = absurd (false≢true h)
-    go false true e h = absurd (false≢true h)
-    go false false e h = (refl, ltb-false s.count 6 e)
+    same : (t : Sheet) → ◌≡◌ {A = Option Sheet} (Some t) (Some s) → t ≡ s
+    same t h = cc
 
-pub good_count : (text : List ℕ) → (sheet_of text).good ≡ true → (6 ≤ (sheet_of text).count) × ((sheet_of text).count ≤ 1030)
-unfolding sheet_of
-good_count text h =
-    let r = words_from 8 0 text in
-    let k = judged_good (placed r) h in
-    subst (λ (s : Sheet). (6 ≤ s.count) × (s.count ≤ 1030)) (sym k.0) (k.1, placed_few r)
+    go : (b : Bool) → leb (length ws) 1030 ≡ b → cond b (good_sheet (ws ++ replicate (1030 - length ws) 0) (length ws)) None ≡ Some s → s.count ≤ 1030
+    go true e h = subst (λ (t : Sheet). t.count ≤ 1030) (same _ h) (leb-true (length ws) 1030 e)
+    go false e h = absurd (none_some s h)
+
+judged_good : (t s : Sheet) → judged_by t ≡ Some s → (t ≡ s) × (6 ≤ t.count)
+unfolding judged_by
+judged_good t s = go (ltb t.count 6) (ltb 16 (get_or t.words 5 0)) refl
+  where
+    go : (a b : Bool) → ltb t.count 6 ≡ a → cond a None (cond b None (Some t)) ≡ Some s → (t ≡ s) × (6 ≤ t.count)
+    go true b e h = absurd (none_some s h)
+    go false true e h = absurd (none_some s h)
+    go false false e h = (cc, ltb-false t.count 6 e)
+
+pub good_count : (text : List ℕ) (s : Sheet) → sheet_of text ≡ Some s → (6 ≤ s.count) × (s.count ≤ 1030)
+unfolding sheet_of judged
+good_count text s = go (placed (words_from 8 0 text)) refl
+  where
+    go : (r : Option Sheet) → placed (words_from 8 0 text) ≡ r → option_and_then judged_by r ≡ Some s → (6 ≤ s.count) × (s.count ≤ 1030)
+    go None e h = absurd (none_some s h)
+    go (Some t) e h =
+        let k = judged_good t s h in
+        subst (λ (u : Sheet). (6 ≤ u.count) × (u.count ≤ 1030)) k.0 (k.1, placed_few (words_from 8 0 text) t e)
 
 -- ---- a word takes nine bytes at most, and its line end is one of them
 
 abbrev Spans : ℕ → List ℕ → Words → Type 0
-Spans n bs (found ws) = length bs + 8 ≤ 9 * length ws + n
-Spans n bs none = Unit {0}
+Spans n bs (Some ws) = length bs + 8 ≤ 9 * length ws + n
+Spans n bs None = Unit {0}
 
 spans : (n w : ℕ) (bs : List ℕ) → n ≤ 8 → Spans n bs (words_from n w bs)
 unfolding words_from behind
 spans zero w [] h = omega arith
 spans (suc n) w [] h = go (eqb n 7) refl
   where
-    go : (t : Bool) → eqb n 7 ≡ t → Spans (suc n) [] (cond t (found []) none)
+    go : (t : Bool) → eqb n 7 ≡ t → Spans (suc n) [] (cond t (Some []) None)
     go true e = omega (arith, eqb-true n 7 e)
     go false e = tt
 spans zero w (b ∷ bs) h = go (eqb b 10) (words_from 8 0 bs) (spans 8 0 bs (omega arith))
   where
-    go : (t : Bool) (r : Words) → Spans 8 bs r → Spans zero (b ∷ bs) (cond t (behind (w ∷ []) r) none)
-    go true (found ws) k = omega arith
-    go true none k = tt
+    go : (t : Bool) (r : Words) → Spans 8 bs r → Spans zero (b ∷ bs) (cond t (behind (w ∷ []) r) None)
+    go true (Some ws) k = omega arith
+    go true None k = tt
     go false r k = tt
-spans (suc n) w (b ∷ bs) h = go (ltb (digit_of b) 16) (words_from n (w * 16 + digit_of b) bs) (spans n (w * 16 + digit_of b) bs (omega arith))
+spans (suc n) w (b ∷ bs) h = go (digit_of b) (λ d. spans n (w * 16 + d) bs (omega arith))
   where
-    go : (t : Bool) (r : Words) → Spans n bs r → Spans (suc n) (b ∷ bs) (cond t r none)
-    go true (found ws) k = omega arith
-    go true none k = tt
-    go false r k = tt
+    one : (r : Words) → Spans n bs r → Spans (suc n) (b ∷ bs) r
+    one (Some ws) k = omega arith
+    one None k = tt
 
-pub too_long : (text : List ℕ) → 9270 < length text → sheet_of text ≡ bad_sheet
-unfolding sheet_of judged placed bad_sheet
+    go : (o : Option ℕ) → ((d : ℕ) → Spans n bs (words_from n (w * 16 + d) bs)) → Spans (suc n) (b ∷ bs) (option_and_then (λ d. words_from n (w * 16 + d) bs) o)
+    go (Some d) k = one (words_from n (w * 16 + d) bs) (k d)
+    go None k = tt
+
+pub too_long : (text : List ℕ) → 9270 < length text → sheet_of text ≡ None
+unfolding sheet_of judged placed
 too_long text h = ap judged (go (words_from 8 0 text) (spans 8 0 text (omega arith)))
   where
-    go : (r : Words) → Spans 8 text r → placed r ≡ bad_sheet
-    go (found ws) k = let more : 1030 < length ws = omega arith in simp (lt-leb (length ws) 1030 more)
-    go none k = refl
+    go : (r : Words) → Spans 8 text r → placed r ≡ None
+    go (Some ws) k = let more : 1030 < length ws = omega arith in simp (lt-leb (length ws) 1030 more)
+    go None k = refl
 
 -- so what stands behind the first 9,271 bytes is never needed
 pub enough : (text : List ℕ) → sheet_of (take 9271 text) ≡ sheet_of text

@@ -33,20 +33,16 @@ fn write_answer(rt: &impl Print, number: u32, told: &[u64; 3]) -> io::Result<()>
     output::end_line(rt)
 }
 
-fn wide(w: u32) -> usize {
-    w as usize
-}
-
 // A sheet of so many words: six, and the scene behind them.
 fn flatten_sheet(rt: &(impl Print + Eprint), words: [u32; 1030], count: usize) -> io::Result<()>
     requires { (6 ≤ count) × (count ≤ 1030) }
 {
     let layout = layout_of(&words);
-    let n = wide(words[5]);
+    let n = words[5] as usize;
     let scene = &words[6..count];
     let mut prefixes = [0u32; 4096];
     let mut lines = [0u32; 6000];
-    scene::tags::scan(scene, layout.tag_base, &mut prefixes);
+    let _ = scene::tags::scan(scene, layout.tag_base, &mut prefixes);
     let fresh = [PathBox::fresh(); 64];
     let done = flatten_owned(layout, scene, &prefixes, fresh, n, &mut lines);
     let answer = done.answer;
@@ -63,11 +59,8 @@ fn flatten_sheet(rt: &(impl Print + Eprint), words: [u32; 1030], count: usize) -
 fn main(rt: HostRuntime) -> io::Result<()> {
     let mut text = [0u8; 9271];
     let n = lists::read_full(&mut rt.reader(), &mut text)?;
-    let sheet = input::read_sheet(&text[..n]);
-    if !sheet.good {
-        return output::bad_input(&rt);
+    match input::read_sheet(&text[..n]) {
+        Some(sheet) => flatten_sheet(&rt, sheet.words, sheet.count),
+        None => output::bad_input(&rt),
     }
-    let words = sheet.words;
-    let count = sheet.count;
-    flatten_sheet(&rt, words, count)
 }

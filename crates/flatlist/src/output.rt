@@ -1,4 +1,3 @@
-ghost use Rattle.std.specs.Prelude.{◌<◌};
 // What is written: counts, lines of words, boxes.
 use flatten::boxes::PathBox;
 use std::io;
@@ -39,26 +38,17 @@ fn write_word(rt: &impl Print, i: usize, w: u32) -> io::Result<()> {
     print!(rt; "{w:08x}")
 }
 
-// The six words of line k.
-fn write_line(rt: &impl Print, lines: &[u32; 6000], k: usize) -> io::Result<()>
-    requires { k < 1000 }
-{
-    let mut i = 0usize;
-    while i < 6 {
-        write_word(rt, i, lines[k * 6 + i])?;
-        i = i + 1;
+// The six words of a line.
+fn write_line(rt: &impl Print, line: &[u32]) -> io::Result<()> {
+    for (i, word) in line.iter().enumerate() {
+        write_word(rt, i, *word)?;
     }
     end_line(rt)
 }
 
 pub fn write_lines(rt: &impl Print, lines: &[u32; 6000], count: u64) -> io::Result<()> {
-    let mut k = 0usize;
-    while k < 1000 {
-        if k as u64 >= count {
-            return Ok(());
-        }
-        write_line(rt, lines, k)?;
-        k = k + 1;
+    for line in lines.chunks(6).take(count as usize) {
+        write_line(rt, line)?;
     }
     Ok(())
 }
@@ -80,13 +70,8 @@ fn write_box(rt: &impl Print, b: PathBox) -> io::Result<()> {
 
 // The first n boxes.
 pub fn write_boxes(rt: &impl Print, boxes: [PathBox; 64], n: usize) -> io::Result<()> {
-    let mut k = 0usize;
-    while k < 64 {
-        if k >= n {
-            return Ok(());
-        }
-        write_box(rt, boxes[k])?;
-        k = k + 1;
+    for b in boxes.iter().take(n) {
+        write_box(rt, *b)?;
     }
     Ok(())
 }

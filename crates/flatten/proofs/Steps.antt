@@ -1,43 +1,49 @@
 -- What the proof of a tag's step cites. Assumes nothing.
 use Rattle.std.proofs.Common.{◌≡◌, ℕ, ◌<◌, List, [], sym, refl, ap, ◌∙◌, subst, arith}
-use Rattle.refusals.specs.Refusals.{Read, found}
+use Rattle.refusals.specs.Refusals.{Read}
+use Rattle.std.specs.Prelude.{Ok, Err}
+use Rattle.std.specs.Result.{IsErrAnd}
 use Rattle.refusals.specs.declared.Refusal.{Refusal}
-use Rattle.drawing.specs.Sheet.{Event, sheet, empty_box, draw_all}
-use Rattle.drawing.specs.Page.{empty_reach, dried_of, page, ink_all, Drew}
-use Rattle.drawing.specs.PageLaws.{exact}
+use Rattle.drawing.specs.Sheet.{IntBbox, Event, Drawn, sheet, empty_box, draw_all}
+use Rattle.drawing.specs.Page.{Reach, empty_reach, pen_of, dried_of, Ink, page, ink_all, Drew}
+use Rattle.drawing.specs.PageLaws.{exact, passed}
 use Rattle.drawing.specs.Dried.{empty_clean, empty_whole, dried_page, all_dries}
-use Rattle.drawing.specs.declared.line.IntBbox.{IntBbox}
-use Rattle.drawing.specs.declared.line.Drawn.{Drawn}
-use Rattle.drawing.specs.declared.line.Drawn.TheVariants.{On, Stopped}
-use Rattle.drawing.specs.declared.line.Reach.{Reach}
-use Rattle.drawing.specs.declared.line.Ink.{Ink}
-use Rattle.drawing.specs.declared.line.Ink.TheVariants.{Flows}
+use Rattle.drawing.specs.declared.line.Nib.{Nib}
+use Rattle.drawing.specs.declared.line.Pen.{Pen}
+use Rattle.drawing.specs.declared.line.Stopped.{Stopped}
 use Rattle.flatten.specs.Step.{drawn_of, fresh_pen, turn_of, refused_at, stepped, behind, tag_word}
 use Rattle.flatten.specs.declared.call.Turn.{Turn}
 use Rattle.flatten.specs.declared.tag.Head.{Head}
 
 fresh : (path n tag : ℕ) (ws : List ℕ) (es : List Event)
-    → dried_page (ink_all path (page ws (Flows (record { count = n; tag = tag; reach = empty_reach }))) es) ≡ drawn_of path (record { count = n; tag = tag; bbox = empty_box }) ws (found es)
-unfolding drawn_of dried_of
+    → dried_page (ink_all (page ws (Ok (record { count = n; tag = tag; path = path; reach = empty_reach }))) es) ≡ drawn_of path (record { count = n; tag = tag; bbox = empty_box }) ws (Ok es)
+unfolding drawn_of dried_of pen_of
 fresh path n tag ws es =
-    all_dries path (page ws (Flows (record { count = n; tag = tag; reach = empty_reach }))) es empty_clean
-    ∙ ap (λ (b : IntBbox). draw_all path (sheet ws (On (record { count = n; tag = tag; bbox = b }))) es) empty_whole
+    all_dries path (page ws (Ok (record { count = n; tag = tag; path = path; reach = empty_reach }))) es (refl, empty_clean)
+    ∙ ap (λ (b : IntBbox). draw_all path (sheet ws (Ok (record { count = n; tag = tag; bbox = b }))) es) empty_whole
 
 -- a tag without a segment draws nothing
-pub drew_none : (path n tag : ℕ) (ws : List ℕ) {b : IntBbox} → b ≡ empty_box → sheet ws (On (record { count = n; tag = tag; bbox = b })) ≡ drawn_of path (record { count = n; tag = tag; bbox = empty_box }) ws (found [])
+pub drew_none : (path n tag : ℕ) (ws : List ℕ) {b : IntBbox} → b ≡ empty_box → sheet ws (Ok (record { count = n; tag = tag; bbox = b })) ≡ drawn_of path (record { count = n; tag = tag; bbox = empty_box }) ws (Ok [])
 unfolding drawn_of draw_all
 drew_none path n tag ws e = rw e refl
 
-pub drew_found : {path n tag : ℕ} {reach : Reach} {ws ws' : List ℕ} {d : Ink} {r : Drawn} {es : List Event} → reach ≡ empty_reach → Drew path ws (Flows (record { count = n; tag = tag; reach = reach })) es ws' d → r ≡ dried_of d
-    → sheet ws' r ≡ drawn_of path (record { count = n; tag = tag; bbox = empty_box }) ws (found es)
-drew_found {path} {n} {tag} {reach} {ws} {ws'} {d} {r} {es} e h k =
-    ap (sheet ws') k ∙ ap dried_page (exact h) ∙ subst Dry (sym e) dry
+-- a tag's segment is drawn with a box of its own
+dried : {path n tag : ℕ} {reach : Reach} {ws ws' : List ℕ} {d : Ink} {es : List Event} → reach ≡ empty_reach → Drew ws (record { count = n; tag = tag; path = path; reach = reach }) es ws' d
+    → sheet ws' (dried_of d) ≡ drawn_of path (record { count = n; tag = tag; bbox = empty_box }) ws (Ok es)
+dried {path} {n} {tag} {reach} {ws} {ws'} {d} {es} e h = ap dried_page (exact h) ∙ subst Dry (sym e) (fresh path n tag ws es)
   where
     Dry : Reach → Type 0
-    Dry x = dried_page (ink_all path (page ws (Flows (record { count = n; tag = tag; reach = x }))) es) ≡ drawn_of path (record { count = n; tag = tag; bbox = empty_box }) ws (found es)
+    Dry x = dried_page (ink_all (page ws (Ok (record { count = n; tag = tag; path = path; reach = x }))) es) ≡ drawn_of path (record { count = n; tag = tag; bbox = empty_box }) ws (Ok es)
 
-    dry : Dry empty_reach
-    dry = fresh path n tag ws es
+pub drew_found : {path n tag : ℕ} {reach : Reach} {ws ws' : List ℕ} {nib : Nib} {pen : Pen} {es : List Event} → reach ≡ empty_reach → Drew ws (record { count = n; tag = tag; path = path; reach = reach }) es ws' (Ok nib) → pen ≡ pen_of nib
+    → sheet ws' (Ok pen) ≡ drawn_of path (record { count = n; tag = tag; bbox = empty_box }) ws (Ok es)
+unfolding dried_of
+drew_found {ws' = ws'} e h k = ap (λ (p : Pen). sheet ws' (Ok p)) k ∙ dried e h
+
+pub drew_stopped : {path n tag : ℕ} {reach : Reach} {ws ws' : List ℕ} {s : Stopped} {r : Drawn} {es : List Event} → reach ≡ empty_reach → Drew ws (record { count = n; tag = tag; path = path; reach = reach }) es ws' (Err s) → IsErrAnd r (λ (e : Stopped). e ≡ s)
+    → sheet ws' r ≡ drawn_of path (record { count = n; tag = tag; bbox = empty_box }) ws (Ok es)
+unfolding dried_of
+drew_stopped {ws' = ws'} e h k = ap (sheet ws') (passed k) ∙ dried e h
 
 pub went : (path word : ℕ) (ws ws' : List ℕ) (d : Drawn) (r : Read (List Event)) (t : Turn) (h : Head) → word ≡ tag_word t.tag
     → sheet ws' d ≡ drawn_of path (record { count = t.count; tag = word; bbox = empty_box }) ws r → stepped (turn_of t h d) ws' ≡ behind t h (drawn_of path (fresh_pen tag_word t) ws r)
@@ -46,8 +52,8 @@ went path word ws ws' d r t h f k = ap (behind t h) (k ∙ (λ i. drawn_of path 
 -- fewer tags are left
 pub fewer : (r t : Turn) (h : Head) (d : Drawn) → r ≡ turn_of t h d → 0 < t.left → r.left < t.left
 unfolding turn_of
-fewer r t h (On pen) k p = rw k (omega arith)
-fewer r t h (Stopped why n) k p = rw k p
+fewer r t h (Ok pen) k p = rw k (omega arith)
+fewer r t h (Err s) k p = rw k p
 
 pub none_left : (r t : Turn) (why : Refusal) → r ≡ refused_at t why → 0 < t.left → r.left < t.left
 unfolding refused_at

@@ -1,9 +1,10 @@
 -- A call that is refused by 9 stored no line of the tag whose transform it is. Assumes nothing.
-use Rattle.std.specs.Prelude.{◌≡◌, ℕ, zero, suc, ◌*◌, ◌%◌, ◌^◌, ◌<◌, ◌≤◌, Bool, true, false, ◌||◌, ◌⊎◌, List, length, ◌≢◌, nat_lt}
+use Rattle.std.specs.Prelude.{◌≡◌, ℕ, zero, suc, ◌*◌, ◌%◌, ◌^◌, ◌<◌, ◌≤◌, Bool, true, false, ◌||◌, ◌⊎◌, List, length, ◌≢◌, nat_lt, Ok, Err, Option, Some, None}
 use Rattle.std.proofs.Math.Path.{refl}
 use Rattle.std.proofs.Common.{◌∙◌, inl, inr, ⊎_elim, ltb-true}
 use native.Mathlib.Omega.{arith}
-use Rattle.refusals.specs.Refusals.{number_of, Read, found, refused}
+use Rattle.refusals.specs.declared.Refusal.{Refusal}
+use Rattle.refusals.specs.Refusals.{number_of, Read}
 use Rattle.drawing.specs.Sheet.{Event}
 use Rattle.flatten.specs.Tag.{head_at, events_at}
 use Rattle.flatten.specs.Step.{drawn_of, fresh_pen, turn_of, refused_at, behind, Stepped, tag_word, step_from_by, step_by, step_of}
@@ -15,8 +16,6 @@ use Rattle.flatten.specs.WhoseLaws.{done, after_all}
 use Rattle.flatten.specs.declared.boxes.PathBox.{PathBox}
 use Rattle.flatten.specs.declared.call.Layout.{Layout}
 use Rattle.flatten.specs.declared.call.Turn.{Turn}
-use Rattle.flatten.specs.declared.call.Stop.{Stop}
-use Rattle.flatten.specs.declared.call.Stop.TheVariants as stop
 use Rattle.flatten.specs.declared.tag.Head.{Head}
 
 -- ---- one tag
@@ -37,14 +36,14 @@ not_drawn n e (inr h) = omega (arith, e, h.1)
 drawing_idle : (t : Turn) (h : Head) (ws : List ℕ) (path : ℕ) (r : Read (List Event))
     → number_at (behind t h (drawn_of path (fresh_pen tag_word t) ws r)).turn ≡ 9 → Idle t ws (behind t h (drawn_of path (fresh_pen tag_word t) ws r))
 unfolding drawn_of turn_of
-drawing_idle t h ws path (found es) e = absurd (not_drawn 9 refl (drawing_late t h ws path es 9 e))
-drawing_idle t h ws path (refused why) e = record { count = refl; tag = refl; lines = refl }
+drawing_idle t h ws path (Ok es) e = absurd (not_drawn 9 refl (drawing_late t h ws path es 9 e))
+drawing_idle t h ws path (Err why) e = record { count = refl; tag = refl; lines = refl }
 
 module _ (layout : Layout) (scene prefixes : List ℕ) where
   head_idle : (r : Read Head) (ws : List ℕ) (t : Turn) → number_at (step_from_by tag_word r layout scene prefixes ws t).turn ≡ 9 → Idle t ws (step_from_by tag_word r layout scene prefixes ws t)
   unfolding step_from_by refused_at
-  head_idle (found h) ws t e = drawing_idle t h ws h.tag.monoid.path_ix (events_at layout scene prefixes t.tag h) e
-  head_idle (refused why) ws t e = record { count = refl; tag = refl; lines = refl }
+  head_idle (Ok h) ws t e = drawing_idle t h ws h.tag.monoid.path_ix (events_at layout scene prefixes t.tag h) e
+  head_idle (Err why) ws t e = record { count = refl; tag = refl; lines = refl }
 
   step_idle : (ws : List ℕ) (n : ℕ) (t : Turn) → number_at (step_of layout scene prefixes ws n t).turn ≡ 9 → Idle t ws (step_of layout scene prefixes ws n t)
   unfolding step_by
@@ -93,10 +92,10 @@ module _ (layout : Layout) (scene prefixes : List ℕ) where
     stopped (suc m) n = stopped_next m (nat_lt 0 (then m).turn.left) refl (stopped m) n
 
 -- the tag that an answer tells of a refusal is the one in turn
-told_tag : (s : Stop) (tag count : ℕ) → (told_of (answer_for s tag count)).number ≡ 9 → (told_of (answer_for s tag count)).tag ≡ tag
+told_tag : (s : Option Refusal) (tag count : ℕ) → (told_of (answer_for s tag count)).number ≡ 9 → (told_of (answer_for s tag count)).tag ≡ tag
 unfolding told_of
-told_tag stop.Going tag count e = absurd (omega arith)
-told_tag (stop.Refused why) tag count e = refl
+told_tag None tag count e = absurd (omega arith)
+told_tag (Some why) tag count e = refl
 
 pub nine_stores_none : (layout : Layout) (scene prefixes : List ℕ) (ps : List PathBox) (ws : List ℕ)
     → (call_of layout scene prefixes ps ws).answer.number ≡ 9 → StoredNone layout scene prefixes ps ws

@@ -1,8 +1,8 @@
 -- What a tag does to its path's box. Definitions only.
-use Rattle.std.specs.Prelude.{ℕ, Bool, true, false, ◌||◌, List, int_lt, slice_index_or, slice_set}
-use Rattle.drawing.specs.Sheet.{lower_of, higher_of, empty_box}
-use Rattle.drawing.specs.declared.line.IntBbox.{IntBbox}
+use Rattle.std.specs.Prelude.{ℕ, Bool, true, false, ◌||◌, Option, None, Some, List, int_lt, slice_index_or, slice_set}
+use Rattle.drawing.specs.Sheet.{IntBbox, lower_of, higher_of, empty_box}
 use Rattle.flatten.specs.declared.boxes.PathBox.{PathBox}
+use Rattle.flatten.specs.declared.boxes.Mark.{Mark}
 use Rattle.flatten.specs.declared.boxes.Change.{Change}
 
 -- like the box of a tag that drew nothing, with 0 0 behind
@@ -13,9 +13,9 @@ fresh_box = record { x0 = empty_box.x0; y0 = empty_box.y0; x1 = empty_box.x1; y1
 unfoldable pub has_extent : IntBbox → Bool
 has_extent b = int_lt b.x0 b.x1 || int_lt b.y0 b.y1
 
-unfoldable pub marked_of : Bool → PathBox → Change → PathBox
-marked_of true p c = record { x0 = p.x0; y0 = p.y0; x1 = p.x1; y1 = p.y1; draw_flags = c.draw_flags; trans_ix = c.trans_ix }
-marked_of false p c = p
+unfoldable pub marked_of : Option Mark → PathBox → PathBox
+marked_of (Some m) p = record { x0 = p.x0; y0 = p.y0; x1 = p.x1; y1 = p.y1; draw_flags = m.draw_flags; trans_ix = m.trans_ix }
+marked_of None p = p
 
 unfoldable pub merged_of : Bool → PathBox → IntBbox → PathBox
 merged_of true p b =
@@ -31,7 +31,11 @@ merged_of false p b = p
 
 -- flags and transform index are stored where the tag says so, and what was drawn is merged where it has an extent
 unfoldable pub changed_of : PathBox → Change → PathBox
-changed_of p c = merged_of (has_extent c.bbox) (marked_of c.mark p c) c.bbox
+changed_of p c = merged_of (has_extent c.bbox) (marked_of c.mark p) c.bbox
+
+-- nothing: no mark, and an empty box
+abbrev pub no_change : Change
+no_change = record { mark = None; bbox = empty_box }
 
 -- the list with one box changed; past its end nothing is
 unfoldable pub changed_at : List PathBox → ℕ → Change → List PathBox

@@ -1,29 +1,26 @@
 -- The whole call: one tag after the other, until none is left or one is refused. Definitions only.
-use Rattle.std.specs.Prelude.{ℕ, zero, suc, ◌*◌, Bool, true, false, cond, ◌||◌, List, [], ◌∷◌, ◌++◌, length, take, drop, nat_lt}
+use Rattle.std.specs.Prelude.{ℕ, zero, suc, ◌*◌, Bool, true, false, cond, ◌||◌, List, [], ◌∷◌, ◌++◌, length, take, drop, nat_lt, Option, Some, None, Result, Ok, Err}
 use Rattle.refusals.specs.Refusals.{number_of, end_of}
+use Rattle.refusals.specs.declared.Refusal.{Refusal}
 use Rattle.refusals.specs.declared.Refusal.TheVariants.{BadBase}
-use Rattle.drawing.specs.Sheet.{empty_box}
-use Rattle.flatten.specs.Boxes.{changed_at}
+use Rattle.flatten.specs.Boxes.{changed_at, no_change}
 use Rattle.flatten.specs.Step.{tag_word, no_word, Stepped, step_by}
 use Rattle.flatten.specs.declared.boxes.PathBox.{PathBox}
 use Rattle.flatten.specs.declared.call.Layout.{Layout}
 use Rattle.flatten.specs.declared.call.Turn.{Turn}
-use Rattle.flatten.specs.declared.call.Stop.{Stop}
-use Rattle.flatten.specs.declared.call.Stop.TheVariants as stop
-use Rattle.flatten.specs.declared.call.Answer.{Answer}
+use Rattle.flatten.specs.declared.call.Refused.{Refused}
 use Rattle.flatten.specs.declared.call.Told.{Told}
-use Rattle.flatten.specs.declared.call.Answer.TheVariants.{Lines, Refused}
 
 -- ---- where the call starts
 
-unfoldable pub first_turn : ℕ → Stop → Turn
+unfoldable pub first_turn : ℕ → Option Refusal → Turn
 first_turn left s =
-    record { left = left; tag = 0; count = 0; stop = s; at = 0; change = record { mark = false; draw_flags = 0; trans_ix = 0; bbox = empty_box } }
+    record { left = left; tag = 0; count = 0; stop = s; at = 0; change = no_change }
 
 -- whether a base lies past the scene's end; else 256 tags for each workgroup are left
 abbrev pub start_at : Bool → Layout → Turn
-start_at true layout = first_turn 0 (stop.Refused BadBase)
-start_at false layout = first_turn (layout.n_wg * 256) stop.Going
+start_at true layout = first_turn 0 (Some BadBase)
+start_at false layout = first_turn (layout.n_wg * 256) None
 
 unfoldable pub start_of : Layout → ℕ → Turn
 start_of layout n = start_at (nat_lt n layout.tag_base || nat_lt n layout.data_base) layout
@@ -59,9 +56,13 @@ after = after_by tag_word
 
 -- ---- the answer
 
-abbrev pub answer_for : Stop → ℕ → ℕ → Answer
-answer_for stop.Going tag count = Lines count
-answer_for (stop.Refused why) tag count = Refused why tag count
+-- how many lines are stored, or why and at which tag the call stopped
+abbrev pub Answer : Type 0
+Answer = Result ℕ Refused
+
+abbrev pub answer_for : Option Refusal → ℕ → ℕ → Answer
+answer_for None tag count = Ok count
+answer_for (Some why) tag count = Err (record { why = why; tag = tag; count = count })
 
 unfoldable pub answer_of : Turn → Answer
 answer_of t = answer_for t.stop t.tag t.count
@@ -71,8 +72,8 @@ abbrev pub said : ℕ → ℕ → ℕ → Told
 said number tag count = record { number = number; end = 0; tag = tag; count = count }
 
 unfoldable pub told_of : Answer → Told
-told_of (Lines count) = said 0 0 count
-told_of (Refused why tag count) = record { number = number_of why; end = end_of why; tag = tag; count = count }
+told_of (Ok count) = said 0 0 count
+told_of (Err r) = record { number = number_of r.why; end = end_of r.why; tag = r.tag; count = r.count }
 
 -- two words take the tag and the count, where there are two, and a third one the end
 unfoldable pub report_of : Told → List ℕ → List ℕ

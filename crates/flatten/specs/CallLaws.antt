@@ -1,5 +1,5 @@
 -- What holds of the call, whatever one tag does: the laws of the fold. Assumes nothing.
-use Rattle.std.specs.Prelude.{◌≡◌, ℕ, zero, suc, ◌+◌, ◌*◌, Bool, true, false, ◌||◌, ltb, List, length, nat_lt}
+use Rattle.std.specs.Prelude.{◌≡◌, ℕ, zero, suc, ◌+◌, ◌*◌, Bool, true, false, ◌||◌, ltb, List, length, nat_lt, Some}
 use Rattle.std.proofs.Math.Path.{refl}
 use Rattle.std.proofs.Common.{sym, ap, ◌∙◌, arith}
 use Rattle.refusals.specs.Refusals.{number_of, end_of}
@@ -9,7 +9,6 @@ use Rattle.flatten.specs.Call.{first_turn, start_at, start_of, State, taken, nex
 use Rattle.flatten.specs.declared.boxes.PathBox.{PathBox}
 use Rattle.flatten.specs.declared.call.Layout.{Layout}
 use Rattle.flatten.specs.declared.call.Turn.{Turn}
-use Rattle.flatten.specs.declared.call.Stop.TheVariants as stop
 
 module _ (layout : Layout) (scene prefixes : List ℕ) where
   abbrev tag : State → State
@@ -55,7 +54,7 @@ pub bad_base : (layout : Layout) (scene prefixes : List ℕ) (ps : List PathBox)
 unfolding start_of first_turn answer_of told_of number_of end_of call_by after_by
 bad_base layout scene prefixes ps ws past =
     let t = start_of layout (length scene) in
-    let none : t ≡ first_turn 0 (stop.Refused BadBase) = ap (λ (b : Bool). start_at b layout) past in
+    let none : t ≡ first_turn 0 (Some BadBase) = ap (λ (b : Bool). start_at b layout) past in
     let m = layout.n_wg * 256 in
     let h : m + 0 ≡ m = omega arith in
     ap (λ (k : ℕ). outcome_of (after k layout scene prefixes (record { turn = t; boxes = ps; lines = ws }))) (sym h)

@@ -1,21 +1,20 @@
 -- Before it draws, a tag is refused by number 2, 3, 4 or 9 alone, and drawing by none of these: so number 1 is given only where a base lies past the scene's end. The count that an answer tells is that of the records stored. Assumes nothing.
-use Rattle.std.specs.Prelude.{◌≡◌, ℕ, ◌+◌, ◌*◌, ◌%◌, ◌^◌, ◌≤◌, Bool, true, false, ◌&&◌, ◌||◌, ltb, ◌⊎◌, List, [], ◌∷◌, length, ◌==◌, from_bits, nat_le, nat_lt, refl, Float}
+use Rattle.std.specs.Prelude.{◌≡◌, ℕ, ◌+◌, ◌*◌, ◌%◌, ◌^◌, ◌≤◌, Bool, true, false, ◌&&◌, ◌||◌, ltb, ◌⊎◌, List, [], ◌∷◌, length, ◌==◌, from_bits, nat_le, nat_lt, refl, Float, Ok, Err, Option, Some, None}
 use Rattle.std.proofs.Common.{sym, subst, inl, inr, arith}
 use Rattle.std.specs.Float.Ieee.{binary32}
-use Rattle.refusals.specs.Refusals.{number_of, Read, found}
+use Rattle.refusals.specs.declared.Refusal.{Refusal}
+use Rattle.refusals.specs.Refusals.{number_of, Read}
 use Rattle.spiral.specs.declared.util.Vec2.{Vec2}
 use Rattle.spiral.specs.Util.{has_nan}
-use Rattle.drawing.specs.Sheet.{Event, line, no_count, no_join, Sheet, sheet, has_room, stored, draw_on, draw, draw_all}
+use Rattle.drawing.specs.Sheet.{Event, line, no_count, no_join, Sheet, sheet, has_room, stored, draw_on, draw, draw_all, Drawn}
 use Rattle.drawing.specs.declared.line.Pen.{Pen}
-use Rattle.drawing.specs.declared.line.Drawn.{Drawn}
-use Rattle.drawing.specs.declared.line.Drawn.TheVariants.{On, Stopped}
-use Rattle.scene.specs.Early.{Early, read, outside, no_prefix, no_box, bad_transform, either, tag_early, flags_early, width_early}
+use Rattle.scene.specs.Early.{Early, read, outside, no_prefix, no_box, bad_transform, either, tag_early, flags_early, width_early, segment_early, numbers_early}
 use Rattle.scene.specs.Tags.{bit}
-use Rattle.scene.specs.Reading.{segment_of, transform_of, all_finite}
+use Rattle.scene.specs.Reading.{all_finite}
 use Rattle.scene.specs.declared.tags.PathTagData.{PathTagData}
 use Rattle.segment.specs.Segment.{neighbor_of, shape_events}
 use Rattle.segment.specs.declared.Shape.TheVariants.{Nothing, Fill, StartCap, Stroke}
-use Rattle.flatten.specs.Tag.{◌>>=◌, inside, points_at, finite_only, transform_at, is_path, boxed, head_at, neighbor_at, stroke_by, stroke_at, is_stroke, shape_at, events_by, events_at}
+use Rattle.flatten.specs.Tag.{◌>>=◌, points_at, finite_only, transform_at, is_path, boxed, head_at, neighbor_at, stroke_by, stroke_at, is_stroke, shape_at, events_by, events_at}
 use Rattle.flatten.specs.Step.{drawn_of, fresh_pen, turn_of, refused_at, behind, tag_word, step_from_by, step_of, step_by}
 use Rattle.flatten.specs.Call.{first_turn, start_at, start_of, State, taken, after, answer_for, answer_of, told_of, call_of, call_by}
 use Rattle.flatten.specs.CallLaws.{carried}
@@ -23,23 +22,16 @@ use Rattle.flatten.specs.Stands.{none, Stored, call_stands}
 use Rattle.flatten.specs.declared.boxes.PathBox.{PathBox}
 use Rattle.flatten.specs.declared.call.Layout.{Layout}
 use Rattle.flatten.specs.declared.call.Turn.{Turn}
-use Rattle.flatten.specs.declared.call.Stop.{Stop}
-use Rattle.flatten.specs.declared.call.Stop.TheVariants as stop
 use Rattle.flatten.specs.declared.tag.Head.{Head}
 
 -- ---- what is read
 
 bound : {A B : Type 0} {r : Read A} {f : A → Read B} → Early r → ((a : A) → Early (f a)) → Early (r >>= f)
-unfolding ◌>>=◌
 bound (read a) k = k a
 bound outside k = outside
 bound no_prefix k = no_prefix
 bound no_box k = no_box
 bound bad_transform k = bad_transform
-
-insides : {A : Type 0} (b : Bool) (a : A) → Early (inside b a)
-insides true a = read a
-insides false a = outside
 
 finite_early : (z : List Float) → Early (finite_only z)
 unfolding finite_only
@@ -47,14 +39,10 @@ finite_early z = either (all_finite z) (read z) bad_transform
 
 module _ (layout : Layout) (scene prefixes : List ℕ) where
   points_early : (stroke : Bool) (t : PathTagData) → Early (points_at layout scene stroke t)
-  points_early stroke t =
-      let r = segment_of t.tag_byte stroke t.monoid.pathseg_offset scene layout.data_base in
-      insides r.found r.points
+  points_early stroke t = segment_early t.tag_byte stroke t.monoid.pathseg_offset scene layout.data_base
 
   transform_early : (h : Head) → Early (transform_at layout scene h)
-  transform_early h =
-      let r = transform_of scene layout.transform_base h.tag.monoid.trans_ix in
-      bound (insides r.found r.z) finite_early
+  transform_early h = bound (numbers_early scene layout.transform_base h.tag.monoid.trans_ix) finite_early
 
   box_early : (n : ℕ) (h : Head) → Early (boxed n h)
   unfolding boxed
@@ -96,8 +84,8 @@ module _ (layout : Layout) (scene prefixes : List ℕ) where
 
 -- what is drawn is refused by 5 to 8 alone
 unfoldable Late : Drawn → Type 0
-Late (On pen) = Unit {0}
-Late (Stopped why n) = (5 ≤ number_of why) × (number_of why ≤ 8)
+Late (Ok pen) = Unit {0}
+Late (Err s) = (5 ≤ number_of s.why) × (number_of s.why ≤ 8)
 
 stored_late : (s t u : Bool) (path : ℕ) (ws : List ℕ) (pen : Pen) (p q : Vec2) → Late (stored s t u path ws pen p q).drawn
 unfolding Late stored number_of
@@ -108,10 +96,10 @@ stored_late false false true path ws pen p q = tt
 
 draw_late : (path : ℕ) (ws : List ℕ) (d : Drawn) (e : Event) → Late d → Late (draw path ws d e).drawn
 unfolding Late draw draw_on number_of
-draw_late path ws (On pen) (line p q) h = stored_late (has_nan p) (has_nan q) (has_room ws pen.count) path ws pen p q
-draw_late path ws (On pen) no_count h = (omega arith, omega arith)
-draw_late path ws (On pen) no_join h = (omega arith, omega arith)
-draw_late path ws (Stopped why n) e h = h
+draw_late path ws (Ok pen) (line p q) h = stored_late (has_nan p) (has_nan q) (has_room ws pen.count) path ws pen p q
+draw_late path ws (Ok pen) no_count h = (omega arith, omega arith)
+draw_late path ws (Ok pen) no_join h = (omega arith, omega arith)
+draw_late path ws (Err s) e h = h
 
 all_late : (path : ℕ) (s : Sheet) (es : List Event) → Late s.drawn → Late (draw_all path s es).drawn
 unfolding draw_all
@@ -120,15 +108,15 @@ all_late path s (e ∷ es) h = all_late path (draw path s.words s.drawn e) es (d
 
 turn_late : (t : Turn) (h : Head) (d : Drawn) (n : ℕ) → Late d → (told_of (answer_of (turn_of t h d))).number ≡ n → (n ≡ 0) ⊎ ((5 ≤ n) × (n ≤ 8))
 unfolding Late turn_of answer_of told_of
-turn_late t h (On pen) n k e = inl (sym e)
-turn_late t h (Stopped why m) n k e = inr (omega (arith, k.0, e), omega (arith, k.1, e))
+turn_late t h (Ok pen) n k e = inl (sym e)
+turn_late t h (Err s) n k e = inr (omega (arith, k.0, e), omega (arith, k.1, e))
 
 -- where a tag draws, its number is none, or 5 to 8
 pub drawing_late : (t : Turn) (h : Head) (ws : List ℕ) (path : ℕ) (es : List Event) (n : ℕ)
-    → (told_of (answer_of (behind t h (drawn_of path (fresh_pen tag_word t) ws (found es))).turn)).number ≡ n → (n ≡ 0) ⊎ ((5 ≤ n) × (n ≤ 8))
+    → (told_of (answer_of (behind t h (drawn_of path (fresh_pen tag_word t) ws (Ok es))).turn)).number ≡ n → (n ≡ 0) ⊎ ((5 ≤ n) × (n ≤ 8))
 unfolding Late drawn_of
 drawing_late t h ws path es n e =
-    let s = sheet ws (On (fresh_pen tag_word t)) in
+    let s = sheet ws (Ok (fresh_pen tag_word t)) in
     turn_late t h (draw_all path s es).drawn n (all_late path s es tt) e
 
 abbrev NotOne : Turn → Type 0
@@ -179,10 +167,10 @@ one_is_bad_base layout scene prefixes ps ws e =
 
 -- ---- what the answer tells
 
-pub tells : (s : Stop) (tag count : ℕ) → (told_of (answer_for s tag count)).count ≡ count
+pub tells : (s : Option Refusal) (tag count : ℕ) → (told_of (answer_for s tag count)).count ≡ count
 unfolding told_of
-tells stop.Going tag count = refl
-tells (stop.Refused why) tag count = refl
+tells None tag count = refl
+tells (Some why) tag count = refl
 
 pub start_count : (b : Bool) (layout : Layout) → (start_at b layout).count ≡ 0
 unfolding first_turn

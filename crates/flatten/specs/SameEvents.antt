@@ -1,13 +1,11 @@
 -- Equal events give equal calls: where two calls read alike at every tag that gets its turn, they have the same outcome. Assumes nothing.
-use Rattle.std.specs.Prelude.{◌≡◌, ℕ, zero, suc, ◌*◌, ◌<◌, Bool, true, false, List, length, nat_lt}
+use Rattle.std.specs.Prelude.{◌≡◌, ℕ, zero, suc, ◌*◌, ◌<◌, Bool, true, false, List, length, nat_lt, Ok, Err}
 use Rattle.std.proofs.Math.Path.{refl, ap}
 use Rattle.std.proofs.Common.{sym, ◌∙◌, arith}
-use Rattle.refusals.specs.Refusals.{Read, found, refused}
+use Rattle.refusals.specs.Refusals.{Read}
 use Rattle.refusals.specs.declared.Refusal.{Refusal}
-use Rattle.drawing.specs.Sheet.{Event, Sheet}
+use Rattle.drawing.specs.Sheet.{Event, Sheet, Drawn}
 use Rattle.drawing.specs.declared.line.Pen.{Pen}
-use Rattle.drawing.specs.declared.line.Drawn.{Drawn}
-use Rattle.drawing.specs.declared.line.Drawn.TheVariants.{On, Stopped}
 use Rattle.flatten.specs.Tag.{is_path, head_at, events_at}
 use Rattle.flatten.specs.Step.{tag_word, drawn_of, fresh_pen, turn_of, change_of, behind, stepped, step_from_by, step_by, step_of}
 use Rattle.flatten.specs.Call.{State, taken, next, after, after_by, start_of, outcome_of, call_by, call_of}
@@ -26,8 +24,8 @@ pub record SameHead (h h' : Head) : Type 0 where
 
 turn_same : (t : Turn) (h h' : Head) → SameHead h h' → (d : Drawn) → turn_of t h d ≡ turn_of t h' d
 unfolding turn_of change_of
-turn_same t h h' s (On pen) = rw (s.path, s.transform, s.flags, s.mark)
-turn_same t h h' s (Stopped why n) = rw (s.path, s.transform, s.flags, s.mark)
+turn_same t h h' s (Ok pen) = rw (s.path, s.transform, s.flags, s.mark)
+turn_same t h h' s (Err d) = rw (s.path, s.transform, s.flags, s.mark)
 
 behind_same : (t : Turn) (h h' : Head) → SameHead h h' → (o : Sheet) → behind t h o ≡ behind t h' o
 behind_same t h h' s o = ap (λ (u : Turn). stepped u o.words) (turn_same t h h' s o.drawn)
@@ -39,8 +37,8 @@ drawn_same ws pen p q = cc
 module _ (layout : Layout) (scene prefixes : List ℕ) (layout' : Layout) (scene' prefixes' : List ℕ) where
   -- at a tag both calls are refused for the same reason at its head, or both heads are found, the heads are alike, and what they draw is the same or is refused for the same reason
   pub data SameAt (n ix : ℕ) : Type 0 where
-    no_head : (why : Refusal) → head_at layout scene prefixes n ix ≡ refused why → head_at layout' scene' prefixes' n ix ≡ refused why → SameAt n ix
-    heads : (h h' : Head) → head_at layout scene prefixes n ix ≡ found h → head_at layout' scene' prefixes' n ix ≡ found h' → SameHead h h'
+    no_head : (why : Refusal) → head_at layout scene prefixes n ix ≡ Err why → head_at layout' scene' prefixes' n ix ≡ Err why → SameAt n ix
+    heads : (h h' : Head) → head_at layout scene prefixes n ix ≡ Ok h → head_at layout' scene' prefixes' n ix ≡ Ok h' → SameHead h h'
         → events_at layout scene prefixes ix h ≡ events_at layout' scene' prefixes' ix h' → SameAt n ix
 
   same_step : (ws : List ℕ) (n : ℕ) (t : Turn) → SameAt n t.tag → step_of layout scene prefixes ws n t ≡ step_of layout' scene' prefixes' ws n t

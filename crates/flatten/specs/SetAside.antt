@@ -1,17 +1,15 @@
 -- But for the second word of the records stored, the call is the scope paper's: the same answer, the same boxes, the same words. Assumes nothing.
-use Rattle.std.specs.Prelude.{◌≡◌, ℕ, zero, suc, ◌+◌, ◌*◌, ◌<◌, Bool, true, false, ◌||◌, ltb, List, [], ◌∷◌, length, ◌≢◌, nat_lt, slice_set, to_bits}
+use Rattle.std.specs.Prelude.{◌≡◌, ℕ, zero, suc, ◌+◌, ◌*◌, ◌<◌, Bool, true, false, ◌||◌, ltb, List, [], ◌∷◌, length, ◌≢◌, nat_lt, slice_set, to_bits, Ok, Err}
 use Rattle.std.proofs.Math.Path.{refl, ap}
 use Rattle.std.proofs.Common.{sym, ◌∙◌, add-one, arith, length-set, set-set}
 use Rattle.std.proofs.lemmas.List.Edits.{sets}
 use Rattle.std.proofs.lemmas.List.{set_comm}
 use Rattle.std.specs.Float.{binary32}
-use Rattle.refusals.specs.Refusals.{Read, found, refused}
+use Rattle.refusals.specs.Refusals.{Read}
 use Rattle.spiral.specs.declared.util.Vec2.{Vec2}
 use Rattle.spiral.specs.Util.{has_nan}
-use Rattle.drawing.specs.Sheet.{Event, line, no_count, no_join, Sheet, sheet, record_of, pen_behind, has_room, stored, draw_on, draw, draw_all, count_of}
+use Rattle.drawing.specs.Sheet.{Event, line, no_count, no_join, Sheet, sheet, record_of, pen_behind, has_room, stored, draw_on, draw, draw_all, count_of, Drawn}
 use Rattle.drawing.specs.declared.line.Pen.{Pen}
-use Rattle.drawing.specs.declared.line.Drawn.{Drawn}
-use Rattle.drawing.specs.declared.line.Drawn.TheVariants.{On, Stopped}
 use Rattle.flatten.specs.Tag.{head_at, events_at}
 use Rattle.flatten.specs.Step.{tag_word, no_word, drawn_of, fresh_pen, turn_of, refused_at, Stepped, stepped, behind, step_from_by, step_by}
 use Rattle.flatten.specs.Call.{start_at, start_of, State, taken, onward_by, next_by, after_by, answer_of, told_of, outcome_of, outcome, call_by, call_of, plain_call_of}
@@ -68,8 +66,8 @@ plain_pen : Pen → Pen
 plain_pen pen = record { count = pen.count; tag = 0; bbox = pen.bbox }
 
 plain : Drawn → Drawn
-plain (On pen) = On (plain_pen pen)
-plain (Stopped why n) = Stopped why n
+plain (Ok pen) = Ok (plain_pen pen)
+plain (Err s) = Err s
 
 plain_sheet : Sheet → Sheet
 plain_sheet s = sheet (aside (count_of s.drawn) s.words) (plain s.drawn)
@@ -84,16 +82,16 @@ unfolding stored plain_sheet plain plain_pen
 line_plain true t u path ws pen p q = refl
 line_plain false true u path ws pen p q = refl
 line_plain false false false path ws pen p q = refl
-line_plain false false true path ws pen p q = ap (λ (l : List ℕ). sheet l (On (pen_behind (plain_pen pen) p q))) (stored_aside pen.count path pen.tag p q ws)
+line_plain false false true path ws pen p q = ap (λ (l : List ℕ). sheet l (Ok (pen_behind (plain_pen pen) p q))) (stored_aside pen.count path pen.tag p q ws)
 
 draw_plain : (path : ℕ) (ws : List ℕ) (d : Drawn) (e : Event) → draw path (aside (count_of d) ws) (plain d) e ≡ plain_sheet (draw path ws d e)
 unfolding draw draw_on plain_sheet plain plain_pen
-draw_plain path ws (On pen) (line p q) =
+draw_plain path ws (Ok pen) (line p q) =
     ap (λ (u : Bool). stored (has_nan p) (has_nan q) u path (aside pen.count ws) (plain_pen pen) p q) (same_room pen.count ws)
     ∙ line_plain (has_nan p) (has_nan q) (has_room ws pen.count) path ws pen p q
-draw_plain path ws (On pen) no_count = refl
-draw_plain path ws (On pen) no_join = refl
-draw_plain path ws (Stopped why n) e = refl
+draw_plain path ws (Ok pen) no_count = refl
+draw_plain path ws (Ok pen) no_join = refl
+draw_plain path ws (Err s) e = refl
 
 all_plain : (path : ℕ) (s : Sheet) (es : List Event) → draw_all path (plain_sheet s) es ≡ plain_sheet (draw_all path s es)
 unfolding draw_all plain_sheet
@@ -106,8 +104,8 @@ plain_step o = stepped o.turn (aside o.turn.count o.lines)
 
 turn_plain : (t : Turn) (h : Head) (d : Drawn) → turn_of t h (plain d) ≡ turn_of t h d
 unfolding turn_of plain plain_pen
-turn_plain t h (On pen) = refl
-turn_plain t h (Stopped why n) = refl
+turn_plain t h (Ok pen) = refl
+turn_plain t h (Err s) = refl
 
 behind_plain : (t : Turn) (h : Head) (s : Sheet) → behind t h (plain_sheet s) ≡ plain_step (behind t h s)
 unfolding plain_sheet plain_step
@@ -118,17 +116,17 @@ behind_plain t h s =
 drawn_plain : (path : ℕ) (t : Turn) (ws : List ℕ) (r : Read (List Event))
     → drawn_of path (fresh_pen no_word t) (aside t.count ws) r ≡ plain_sheet (drawn_of path (fresh_pen tag_word t) ws r)
 unfolding drawn_of plain_sheet plain plain_pen
-drawn_plain path t ws (found es) = all_plain path (sheet ws (On (fresh_pen tag_word t))) es
-drawn_plain path t ws (refused why) = refl
+drawn_plain path t ws (Ok es) = all_plain path (sheet ws (Ok (fresh_pen tag_word t))) es
+drawn_plain path t ws (Err why) = refl
 
 module _ (layout : Layout) (scene prefixes : List ℕ) where
   head_plain : (r : Read Head) (ws : List ℕ) (t : Turn) → step_from_by no_word r layout scene prefixes (aside t.count ws) t ≡ plain_step (step_from_by tag_word r layout scene prefixes ws t)
   unfolding step_from_by refused_at plain_step
-  head_plain (found h) ws t =
+  head_plain (Ok h) ws t =
       let path = h.tag.monoid.path_ix in
       let r = events_at layout scene prefixes t.tag h in
       ap (behind t h) (drawn_plain path t ws r) ∙ behind_plain t h (drawn_of path (fresh_pen tag_word t) ws r)
-  head_plain (refused why) ws t = refl
+  head_plain (Err why) ws t = refl
 
   step_plain : (ws : List ℕ) (n : ℕ) (t : Turn) → step_by no_word layout scene prefixes (aside t.count ws) n t ≡ plain_step (step_by tag_word layout scene prefixes ws n t)
   unfolding step_by

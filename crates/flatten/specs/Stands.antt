@@ -1,12 +1,10 @@
 -- What the call leaves in the lent words of the lines: as many whole records as it counts, those stored before among them, and behind them every word as at entry. Assumes nothing.
-use Rattle.std.specs.Prelude.{◌≡◌, ℕ, zero, suc, ◌+◌, ◌*◌, List, [], ◌∷◌, ◌++◌, length, take, drop, refl}
+use Rattle.std.specs.Prelude.{◌≡◌, ℕ, zero, suc, ◌+◌, ◌*◌, List, [], ◌∷◌, ◌++◌, length, take, drop, refl, Ok, Err}
 use Rattle.std.proofs.Common.{sym, ap, ◌∙◌, subst, append_assoc, arith, take_at, drop_at, drop-drop}
 use Rattle.spiral.specs.declared.util.Vec2.{Vec2}
-use Rattle.refusals.specs.Refusals.{Read, found, refused}
-use Rattle.drawing.specs.Sheet.{Event, line, no_count, no_join, sheet, record_of, empty_box, count_of, draw_all}
+use Rattle.refusals.specs.Refusals.{Read}
+use Rattle.drawing.specs.Sheet.{Event, line, no_count, no_join, sheet, record_of, empty_box, count_of, draw_all, Drawn}
 use Rattle.drawing.specs.Stands.{pen_tag, records_of, Stands, stands}
-use Rattle.drawing.specs.declared.line.Drawn.{Drawn}
-use Rattle.drawing.specs.declared.line.Drawn.TheVariants as drawn
 use Rattle.flatten.specs.Tag.{events_at, head_at}
 use Rattle.flatten.specs.Step.{drawn_of, fresh_pen, turn_of, refused_at, behind, tag_word, step_from_by, step_of, step_by}
 use Rattle.flatten.specs.Call.{State, taken, after}
@@ -50,25 +48,25 @@ pub record Grown (tag : ℕ) (ws : List ℕ) (n : ℕ) (ws' : List ℕ) (n' : �
 
 unchanged : (tag : ℕ) (ws : List ℕ) (n : ℕ) → Grown tag ws n ws n
 unfolding draw_all pen_tag
-unchanged tag ws n = record { path = 0; events = []; drew = stands 0 [] ws (drawn.On (record { count = n; tag = tag; bbox = empty_box })) }
+unchanged tag ws n = record { path = 0; events = []; drew = stands 0 [] ws (Ok (record { count = n; tag = tag; bbox = empty_box })) }
 
 pub end_count : (t : Turn) (h : Head) (d : Drawn) → count_of d ≡ (turn_of t h d).count
 unfolding turn_of
-end_count t h (drawn.On pen) = refl
-end_count t h (drawn.Stopped why n) = refl
+end_count t h (Ok pen) = refl
+end_count t h (Err s) = refl
 
 drawing_grows : (t : Turn) (h : Head) (ws : List ℕ) (path : ℕ) (r : Read (List Event)) → Grown (tag_word t.tag) ws t.count (behind t h (drawn_of path (fresh_pen tag_word t) ws r)).lines (behind t h (drawn_of path (fresh_pen tag_word t) ws r)).turn.count
 unfolding drawn_of turn_of pen_tag
-drawing_grows t h ws path (refused why) = unchanged (tag_word t.tag) ws t.count
-drawing_grows t h ws path (found es) =
-    let d = drawn.On (fresh_pen tag_word t) in
+drawing_grows t h ws path (Err why) = unchanged (tag_word t.tag) ws t.count
+drawing_grows t h ws path (Ok es) =
+    let d = Ok (fresh_pen tag_word t) in
     let s = draw_all path (sheet ws d) es in
     record { path = path; events = es; drew = subst (Stands path (tag_word t.tag) es ws t.count s.words) (end_count t h s.drawn) (stands path es ws d) }
 
 head_grows : (r : Read Head) (layout : Layout) (scene prefixes ws : List ℕ) (t : Turn) → Grown (tag_word t.tag) ws t.count (step_from_by tag_word r layout scene prefixes ws t).lines (step_from_by tag_word r layout scene prefixes ws t).turn.count
 unfolding step_from_by refused_at
-head_grows (refused why) layout scene prefixes ws t = unchanged (tag_word t.tag) ws t.count
-head_grows (found h) layout scene prefixes ws t = drawing_grows t h ws h.tag.monoid.path_ix (events_at layout scene prefixes t.tag h)
+head_grows (Err why) layout scene prefixes ws t = unchanged (tag_word t.tag) ws t.count
+head_grows (Ok h) layout scene prefixes ws t = drawing_grows t h ws h.tag.monoid.path_ix (events_at layout scene prefixes t.tag h)
 
 pub step_grows : (layout : Layout) (scene prefixes ws : List ℕ) (n : ℕ) (t : Turn) → Grown (tag_word t.tag) ws t.count (step_of layout scene prefixes ws n t).lines (step_of layout scene prefixes ws n t).turn.count
 unfolding step_by

@@ -1,8 +1,8 @@
 -- What a tag needs from the scene, read in the source's order: the first read that fails is the stop. Definitions only.
-use Rattle.std.specs.Prelude.{ℕ, ◌+◌, ◌%◌, ◌^◌, Bool, true, false, cond, ◌&&◌, List, [], ◌==◌, from_bits, nat_le, Float}
+use Rattle.std.specs.Prelude.{ℕ, ◌+◌, ◌%◌, ◌^◌, Bool, true, false, cond, ◌&&◌, List, [], ◌==◌, from_bits, nat_le, Float, Ok, Err}
 use Rattle.std.specs.Float.{binary32}
-use Rattle.refusals.specs.Refusals.{Read, found, refused}
-use Rattle.refusals.specs.declared.Refusal.TheVariants.{Outside, NoBox, BadTransform}
+use Rattle.refusals.specs.Refusals.{Read}
+use Rattle.refusals.specs.declared.Refusal.TheVariants.{NoBox, BadTransform}
 use Rattle.spiral.specs.declared.util.Vec2.{Vec2}
 use Rattle.drawing.specs.Sheet.{Event}
 use Rattle.segment.specs.Segment.{neighbor_of, shape_events}
@@ -14,37 +14,14 @@ use Rattle.scene.specs.Reading.{segment_of, transform_of, all_finite, flags_of, 
 use Rattle.scene.specs.declared.tags.PathTagData.{PathTagData}
 use Rattle.flatten.specs.declared.call.Layout.{Layout}
 use Rattle.flatten.specs.declared.tag.Head.{Head}
-use Rattle.flatten.specs.declared.tag.HeadRead.{HeadRead}
-use Rattle.flatten.specs.declared.tag.HeadRead.TheVariants as head
-use Rattle.flatten.specs.declared.tag.NeighborRead.{NeighborRead}
-use Rattle.flatten.specs.declared.tag.NeighborRead.TheVariants as neighbor
-use Rattle.flatten.specs.declared.tag.ShapeRead.{ShapeRead}
-use Rattle.flatten.specs.declared.tag.ShapeRead.TheVariants as shape
+use Rattle.flatten.specs.declared.step.Drawing.{Drawing}
 
 -- ---- reads, one after the other
 
 infixl 1 ◌>>=◌
-unfoldable pub ◌>>=◌ : {A B : Type 0} → Read A → (A → Read B) → Read B
-found a >>= f = f a
-refused why >>= f = refused why
-
--- what is there, or 2
-abbrev pub inside : {A : Type 0} → Bool → A → Read A
-inside true a = found a
-inside false a = refused Outside
-
--- the code's answers
-abbrev pub head_read : HeadRead → Read Head
-head_read (head.Found h) = found h
-head_read (head.Refused why) = refused why
-
-abbrev pub neighbor_read : NeighborRead → Read Neighbor
-neighbor_read (neighbor.Found n) = found n
-neighbor_read (neighbor.Refused why) = refused why
-
-abbrev pub shape_read : ShapeRead → Read Shape
-shape_read (shape.Found s) = found s
-shape_read (shape.Refused why) = refused why
+abbrev pub ◌>>=◌ : {A B : Type 0} → Read A → (A → Read B) → Read B
+Ok a >>= f = f a
+Err why >>= f = Err why
 
 -- ---- a tag with its style's flags
 
@@ -56,7 +33,7 @@ is_path h = bit h.tag.tag_byte 0x10 == 1
 
 -- a path tag needs its path's box
 unfoldable pub boxed : ℕ → Head → Read Head
-boxed n h = cond (is_path h && nat_le n h.tag.monoid.path_ix) (refused NoBox) (found h)
+boxed n h = cond (is_path h && nat_le n h.tag.monoid.path_ix) (Err NoBox) (Ok h)
 
 -- the tag's word and its prefix, the style's flags, the path's box
 unfoldable pub head_at : Layout → List ℕ → List ℕ → ℕ → ℕ → Read Head
@@ -68,33 +45,33 @@ head_at layout scene prefixes n ix =
 -- ---- what it draws
 
 abbrev pub points_at : Layout → List ℕ → Bool → PathTagData → Read (List Vec2)
-points_at layout scene stroke t =
-    let r = segment_of t.tag_byte stroke t.monoid.pathseg_offset scene layout.data_base in
-    inside r.found r.points
+points_at layout scene stroke t = segment_of t.tag_byte stroke t.monoid.pathseg_offset scene layout.data_base
 
 -- six numbers, or 9 where one of them is a NaN or an infinity
 unfoldable pub finite_only : List Float → Read (List Float)
-finite_only z = cond (all_finite z) (found z) (refused BadTransform)
+finite_only z = cond (all_finite z) (Ok z) (Err BadTransform)
+
+-- the six numbers of its transform, be they finite or not
+abbrev pub numbers_at : Layout → List ℕ → Head → Read (List Float)
+numbers_at layout scene h = transform_of scene layout.transform_base h.tag.monoid.trans_ix
 
 -- 2 where they are not there comes first
 abbrev pub transform_at : Layout → List ℕ → Head → Read (List Float)
-transform_at layout scene h =
-    let r = transform_of scene layout.transform_base h.tag.monoid.trans_ix in
-    inside r.found r.z >>= finite_only
+transform_at layout scene h = numbers_at layout scene h >>= finite_only
 
 -- the next tag: its word and its prefix, and its points, read as a stroke's
 unfoldable pub neighbor_at : Layout → List ℕ → List ℕ → ℕ → Read Neighbor
 neighbor_at layout scene prefixes ix =
     tag_at layout scene prefixes ix
     >>= λ t. points_at layout scene true t
-    >>= λ ps. found (neighbor_of t.tag_byte ps)
+    >>= λ ps. Ok (neighbor_of t.tag_byte ps)
 
 -- a tag that ends its subpath draws the start cap where the subpath is open, and nothing where it is closed
 unfoldable pub stroke_by : Bool → Bool → Layout → List ℕ → List ℕ → ℕ → Float → Read Shape
-stroke_by true true layout scene prefixes ix width = found Nothing
-stroke_by true false layout scene prefixes ix width = found (StartCap width)
+stroke_by true true layout scene prefixes ix width = Ok Nothing
+stroke_by true false layout scene prefixes ix width = Ok (StartCap width)
 stroke_by false closed layout scene prefixes ix width =
-    neighbor_at layout scene prefixes ((ix + 1) % 2 ^ 64) >>= λ n. found (Stroke width n)
+    neighbor_at layout scene prefixes ((ix + 1) % 2 ^ 64) >>= λ n. Ok (Stroke width n)
 
 unfoldable pub stroke_at : Layout → List ℕ → List ℕ → ℕ → ℕ → Float → Read Shape
 stroke_at layout scene prefixes ix byte width = stroke_by (bit byte 0x04 == 1) (byte % 4 == 1) layout scene prefixes ix width
@@ -107,16 +84,20 @@ unfoldable pub shape_at : Bool → Layout → List ℕ → List ℕ → ℕ → 
 shape_at true layout scene prefixes ix h =
     width_of scene layout.style_base h.tag.monoid.style_ix
     >>= λ w. stroke_at layout scene prefixes ix h.tag.tag_byte (from_bits binary32 w)
-shape_at false layout scene prefixes ix h = found Fill
+shape_at false layout scene prefixes ix h = Ok Fill
 
 -- a tag with no segment draws nothing; else the transform, the points, and what a stroke needs
 unfoldable pub events_by : Bool → Layout → List ℕ → List ℕ → ℕ → Head → Read (List Event)
-events_by true layout scene prefixes ix h = found []
+events_by true layout scene prefixes ix h = Ok []
 events_by false layout scene prefixes ix h =
     transform_at layout scene h
     >>= λ z. points_at layout scene (is_stroke h) h.tag
     >>= λ ps. shape_at (is_stroke h) layout scene prefixes ix h
-    >>= λ s. found (shape_events s h.flags z ps)
+    >>= λ s. Ok (shape_events s h.flags z ps)
+
+-- of a tag with a segment: what was read, as its events
+abbrev pub drawing_events : Read Drawing → Read (List Event)
+drawing_events r = r >>= λ d. Ok (shape_events d.shape d.segment.flags d.segment.transform d.segment.cubic)
 
 unfoldable pub events_at : Layout → List ℕ → List ℕ → ℕ → Head → Read (List Event)
 events_at layout scene prefixes ix h = events_by (h.tag.tag_byte % 4 == 0) layout scene prefixes ix h

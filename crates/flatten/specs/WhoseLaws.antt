@@ -1,14 +1,12 @@
 -- The second word of every record is the index of the tag that was in turn when it was stored. Assumes nothing.
-use Rattle.std.specs.Prelude.{◌≡◌, ℕ, zero, suc, ◌+◌, ◌-◌, ◌*◌, ◌%◌, ◌^◌, ◌<◌, ◌≤◌, Bool, true, false, ◌||◌, ◌⊎◌, List, [], ◌∷◌, ◌++◌, length, take, drop, nat_lt, slice_index, slice_index_or}
+use Rattle.std.specs.Prelude.{◌≡◌, ℕ, zero, suc, ◌+◌, ◌-◌, ◌*◌, ◌%◌, ◌^◌, ◌<◌, ◌≤◌, Bool, true, false, ◌||◌, ◌⊎◌, List, [], ◌∷◌, ◌++◌, length, take, drop, nat_lt, slice_index, slice_index_or, Ok, Err}
 use Rattle.std.proofs.Math.Path.{refl, subst}
 use Rattle.std.proofs.Common.{sym, ap, ◌∙◌, arith, ltb-true, ltb-false, length-append, get_or-append-add, get_or-take, length-take-le}
 use Rattle.std.proofs.Math.Logic.{inl, inr, ⊎_elim}
 use Rattle.std.proofs.Math.ListN.{get_or-append}
-use Rattle.refusals.specs.Refusals.{Read, found, refused}
-use Rattle.drawing.specs.Sheet.{Event, line, no_count, no_join}
+use Rattle.refusals.specs.Refusals.{Read}
+use Rattle.drawing.specs.Sheet.{Event, line, no_count, no_join, Drawn}
 use Rattle.drawing.specs.Stands.{records_of, Stands}
-use Rattle.drawing.specs.declared.line.Drawn.{Drawn}
-use Rattle.drawing.specs.declared.line.Drawn.TheVariants.{On, Stopped}
 use Rattle.flatten.specs.Tag.{head_at, events_at}
 use Rattle.flatten.specs.Step.{tag_word, drawn_of, fresh_pen, turn_of, refused_at, step_from_by, step_by, step_of}
 use Rattle.flatten.specs.Call.{first_turn, start_at, start_of, State, taken, next, after, after_by, answer_of, call_by, call_of}
@@ -81,14 +79,14 @@ Next t u = (u.left ≡ 0) ⊎ (u.tag ≡ (t.tag + 1) % 2 ^ 64)
 
 turn_next : (t : Turn) (h : Head) (d : Drawn) → Next t (turn_of t h d)
 unfolding turn_of
-turn_next t h (On pen) = inr refl
-turn_next t h (Stopped why n) = inl refl
+turn_next t h (Ok pen) = inr refl
+turn_next t h (Err s) = inl refl
 
 module _ (layout : Layout) (scene prefixes : List ℕ) where
   head_next : (r : Read Head) (ws : List ℕ) (t : Turn) → Next t (step_from_by tag_word r layout scene prefixes ws t).turn
   unfolding step_from_by refused_at
-  head_next (found h) ws t = turn_next t h (drawn_of h.tag.monoid.path_ix (fresh_pen tag_word t) ws (events_at layout scene prefixes t.tag h)).drawn
-  head_next (refused why) ws t = inl refl
+  head_next (Ok h) ws t = turn_next t h (drawn_of h.tag.monoid.path_ix (fresh_pen tag_word t) ws (events_at layout scene prefixes t.tag h)).drawn
+  head_next (Err why) ws t = inl refl
 
   step_next : (ws : List ℕ) (n : ℕ) (t : Turn) → Next t (step_of layout scene prefixes ws n t).turn
   unfolding step_by

@@ -1,9 +1,9 @@
 // The boxes of the paths, a lent list of records. `merge_at` alone touches the list; what happens to
 // one box is a function of its value.
 ghost use Rattle.std.specs.Prelude.{◌≡◌};
-ghost use Rattle.flatten.specs.Boxes.{fresh_box, has_extent, marked_of, merged_of, changed_of, changed_at};
+ghost use Rattle.flatten.specs.Boxes.{fresh_box, no_change, has_extent, marked_of, merged_of, changed_of, changed_at};
 
-use drawing::line::{IntBbox, higher, lower};
+use drawing::line::IntBbox;
 
 // Laid out as C has it: lists of these are lent from outside.
 #[repr(C)]
@@ -17,14 +17,30 @@ pub struct PathBox {
     pub trans_ix: u32,
 }
 
-// What one tag does to its path's box: store flags and transform index if `mark` says so, and merge
-// the box of what it drew.
+// What a path tag stores in its path's box.
 #[derive(Clone, Copy)]
-pub struct Change {
-    pub mark: bool,
+pub struct Mark {
     pub draw_flags: u32,
     pub trans_ix: u32,
+}
+
+// What one tag does to its path's box: store a mark, and merge the box of what it drew.
+#[derive(Clone, Copy)]
+pub struct Change {
+    pub mark: Option<Mark>,
     pub bbox: IntBbox,
+}
+
+impl Change {
+    // Which leaves a box as it is.
+    pub(crate) fn nothing() -> Change
+        ensures { result ≡ no_change }
+    {
+        Change {
+            mark: None,
+            bbox: IntBbox::empty(),
+        }
+    }
 }
 
 fn has_extent(bbox: IntBbox) -> bool
@@ -51,26 +67,29 @@ impl PathBox {
         }
     }
 
-    fn marked(self, change: Change) -> PathBox
-        ensures { result ≡ marked_of change.mark self change }
+    #[tactic(auto, unfolding(crate::specs::Boxes::marked_of))]
+    fn marked(self, mark: Option<Mark>) -> PathBox
+        ensures { result ≡ marked_of mark self }
     {
-        if change.mark {
-            let mut marked = self;
-            marked.draw_flags = change.draw_flags;
-            marked.trans_ix = change.trans_ix;
-            return marked;
+        match mark {
+            Some(m) => PathBox {
+                draw_flags: m.draw_flags,
+                trans_ix: m.trans_ix,
+                ..self
+            },
+            None => self,
         }
-        self
     }
 
+    #[tactic(auto, unfolding(crate::specs::Boxes::merged_of))]
     fn merged(self, bbox: IntBbox) -> PathBox
         ensures { result ≡ merged_of (has_extent bbox) self bbox }
     {
         if has_extent(bbox) {
-            let x0 = lower(self.x0, bbox.x0);
-            let y0 = lower(self.y0, bbox.y0);
-            let x1 = higher(self.x1, bbox.x1);
-            let y1 = higher(self.y1, bbox.y1);
+            let x0 = self.x0.min(bbox.x0);
+            let y0 = self.y0.min(bbox.y0);
+            let x1 = self.x1.max(bbox.x1);
+            let y1 = self.y1.max(bbox.y1);
             return PathBox {
                 x0,
                 y0,
@@ -86,8 +105,7 @@ impl PathBox {
     pub fn changed(self, change: Change) -> PathBox
         ensures { result ≡ changed_of self change }
     {
-        let bbox = change.bbox;
-        self.marked(change).merged(bbox)
+        self.marked(change.mark).merged(change.bbox)
     }
 }
 

@@ -4,7 +4,7 @@ ghost use Rattle.flatten.specs.Call.{first_turn, start_of, answer_of, told_of, r
 
 use crate::boxes::{Change, PathBox, merge_at};
 use crate::step::step;
-use drawing::line::IntBbox;
+use crate::tag::Given;
 use refusals::Refusal;
 
 // The workgroups, each of 256 tags, and where in the scene the parts begin.
@@ -17,13 +17,6 @@ pub struct Layout {
     pub style_base: u32,
 }
 
-// Whether the call was refused before its last tag.
-#[derive(Clone, Copy)]
-pub enum Stop {
-    Going,
-    Refused(Refusal),
-}
-
 // Where the call stands: the tags left (none after a stop), the tag in turn, the lines stored, the
 // stop if any, and what the last tag does to which box.
 #[derive(Clone, Copy)]
@@ -31,16 +24,17 @@ pub struct Turn {
     pub left: u64,
     pub tag: u64,
     pub count: u32,
-    pub stop: Stop,
+    pub stop: Option<Refusal>,
     pub at: usize,
     pub change: Change,
 }
 
-// A refusal holds the tag in turn and the count of lines stored.
+// Why the call stopped, the tag in turn, and how many lines are stored.
 #[derive(Clone, Copy)]
-pub enum Answer {
-    Lines(u32),
-    Refused(Refusal, u64, u32),
+pub struct Refused {
+    pub why: Refusal,
+    pub tag: u64,
+    pub count: u32,
 }
 
 // An answer in numbers; with 5, `end` is 1 where a line's start is no number and 2 where only its end is none.
@@ -52,48 +46,40 @@ pub struct Told {
     pub count: u32,
 }
 
-impl Answer {
-    pub fn told(self) -> Told
-        ensures { result ≡ told_of self }
-    {
-        match self {
-            Answer::Lines(count) => Told {
+// Of so many lines stored, or of a refusal.
+impl From<Result<u32, Refused>> for Told {
+    ghost from_gives = { λ a t. t ≡ told_of a };
+
+    #[tactic(auto, unfolding(crate::specs::Call::told_of))]
+    fn from(answer: Result<u32, Refused>) -> Told {
+        match answer {
+            Ok(count) => Told {
                 number: 0,
                 end: 0,
                 tag: 0,
                 count,
             },
-            Answer::Refused(why, tag, count) => {
-                let number = why.number();
-                let end = why.end();
-                Told {
-                    number,
-                    end,
-                    tag,
-                    count,
-                }
-            }
+            Err(refused) => Told {
+                number: refused.why.number(),
+                end: refused.why.end(),
+                tag: refused.tag,
+                count: refused.count,
+            },
         }
     }
 }
 
-fn first_turn(left: u64, stop: Stop) -> Turn
+#[tactic(auto, unfolding(crate::specs::Call::first_turn))]
+fn first_turn(left: u64, stop: Option<Refusal>) -> Turn
     ensures { result ≡ first_turn left stop }
 {
-    let bbox = IntBbox::empty();
-    let change = Change {
-        mark: false,
-        draw_flags: 0,
-        trans_ix: 0,
-        bbox,
-    };
     Turn {
         left,
         tag: 0,
         count: 0,
         stop,
         at: 0,
-        change,
+        change: Change::nothing(),
     }
 }
 
@@ -101,32 +87,34 @@ fn start(layout: Layout, scene_len: usize) -> Turn
     ensures { result ≡ start_of layout scene_len }
 {
     if scene_len < layout.tag_base as usize {
-        return first_turn(0, Stop::Refused(Refusal::BadBase));
+        return first_turn(0, Some(Refusal::BadBase));
     }
     if scene_len < layout.data_base as usize {
-        return first_turn(0, Stop::Refused(Refusal::BadBase));
+        return first_turn(0, Some(Refusal::BadBase));
     }
-    first_turn(layout.n_wg as u64 * 256, Stop::Going)
+    first_turn(layout.n_wg as u64 * 256, None)
 }
 
-fn answered(t: Turn) -> Answer
+#[tactic(auto, unfolding(crate::specs::Call::answer_of))]
+fn answered(t: Turn) -> Result<u32, Refused>
     ensures { result ≡ answer_of t }
 {
-    let tag = t.tag;
-    let count = t.count;
-    let stop = t.stop;
-    match stop {
-        Stop::Going => Answer::Lines(count),
-        Stop::Refused(why) => Answer::Refused(why, tag, count),
+    match t.stop {
+        None => Ok(t.count),
+        Some(why) => Err(Refused {
+            why,
+            tag: t.tag,
+            count: t.count,
+        }),
     }
 }
 
 // For callers that take numbers: the tag and the count go to `out`, where it has room for both, and the
 // end behind them where it has room for that too.
-pub fn report(answer: Answer, out: &mut [u64]) -> u32
+pub fn report(answer: Result<u32, Refused>, out: &mut [u64]) -> u32
     ensures { (result ≡ (told_of answer).number) × (out.new ≡ report_of (told_of answer) out.old) }
 {
-    let told = answer.told();
+    let told = Told::from(answer);
     if out.len() < 2 {
         return told.number;
     }
@@ -139,19 +127,26 @@ pub fn report(answer: Answer, out: &mut [u64]) -> u32
     told.number
 }
 
+// As C lends them, the layout and the two lists come one by one.
 pub fn flatten_main(
     layout: Layout,
     scene: &[u32],
     prefixes: &[u32],
     boxes: &mut [PathBox],
     lines: &mut [u32],
-) -> Answer
+) -> Result<u32, Refused>
     ensures { outcome (told_of result) boxes.new lines.new
         ≡ call_of layout scene.now prefixes.now boxes.old lines.old }
 {
+    let given = Given {
+        layout,
+        scene,
+        prefixes,
+    };
     let mut t = start(layout, scene.len());
+    // No range: behind a refusal no tag is left.
     while 0 < t.left {
-        t = step(layout, scene, prefixes, lines, boxes.len(), t);
+        t = step(given, lines, boxes.len(), t);
         merge_at(boxes, t.at, t.change);
     }
     answered(t)
@@ -160,20 +155,19 @@ pub fn flatten_main(
 // What a call with boxes of its own answers.
 #[derive(Clone, Copy)]
 pub struct Owned {
-    pub answer: Answer,
+    pub answer: Result<u32, Refused>,
     pub boxes: [PathBox; 64],
 }
 
+#[tactic(auto, unfolding(crate::specs::Call::few_of))]
 fn few(n: usize) -> usize
     ensures { result ≡ few_of n }
 {
-    if 64 < n {
-        return 64;
-    }
-    n
+    n.min(64)
 }
 
-// For callers that have no list of records to lend: the first n boxes are lent, and all come back.
+// For callers that have no list of records to lend: the first n boxes are lent, and all come back. The rest comes as C
+// lends it.
 pub fn flatten_owned(
     layout: Layout,
     scene: &[u32],

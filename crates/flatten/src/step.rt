@@ -1,80 +1,97 @@
 // One tag.
-ghost use Rattle.std.specs.Prelude.{◌≡◌, ◌+◌, ◌-◌, ◌%◌, ◌^◌, ◌<◌};
-ghost use Rattle.drawing.specs.Sheet.{sheet, empty_box};
-ghost use Rattle.drawing.specs.declared.line.Drawn.TheVariants.{Stopped};
-ghost use Rattle.flatten.specs.Tag.{events_at};
+ghost use Rattle.std.specs.Prelude.{◌≡◌, false, ◌+◌, ◌-◌, ◌%◌, ◌^◌, ◌<◌};
+ghost use Rattle.drawing.specs.Sheet.{halt, sheet, empty_box};
+ghost use Rattle.flatten.specs.Tag.{finite_only, drawing_events, events_by, events_at};
 ghost use Rattle.flatten.specs.Step.{tag_word, drawn_of, change_of, turn_of, refused_at, stepped, step_of};
 
-use crate::boxes::Change;
-use crate::call::{Layout, Stop, Turn};
-use crate::tag::{Head, HeadRead, ShapeRead, read_head, read_shape};
-use drawing::line::{Drawn, Ink, IntBbox, Nib, Pen, Reach};
+use crate::boxes::{Change, Mark};
+use crate::call::Turn;
+use crate::tag::{Given, Head};
+use drawing::line::{IntBbox, Nib, Pen, Reach, Stopped};
 use refusals::Refusal;
-use scene::reading::{all_finite, read_path_segment, read_transform};
-use segment::draw_shape;
+use scene::reading::all_finite;
+use segment::{Segment, Shape};
+
+// What a tag with a segment draws.
+#[derive(Clone, Copy)]
+pub struct Drawing {
+    pub segment: Segment,
+    pub shape: Shape,
+}
+
+#[tactic(auto, unfolding(crate::specs::Tag::finite_only))]
+fn finite_only(z: [f32; 6]) -> Result<[f32; 6], Refusal>
+    ensures { result ≡ finite_only z }
+{
+    if all_finite(z) {
+        Ok(z)
+    } else {
+        Err(Refusal::BadTransform)
+    }
+}
+
+#[tactic(auto, unfolding(crate::specs::Tag::events_by))]
+fn read_drawing(given: Given, ix: u64, head: Head) -> Result<Drawing, Refusal>
+    ensures { let g = given.entry in drawing_events result
+        ≡ events_by false g.layout g.scene.now g.prefixes.now ix head }
+{
+    let z = given.read_transform(head)?;
+    let transform = finite_only(z)?;
+    let cubic = given.read_points(head.tag, head.is_stroke())?;
+    let shape = given.read_shape(ix, head)?;
+    let segment = Segment {
+        cubic,
+        transform,
+        flags: head.flags,
+    };
+    Ok(Drawing { segment, shape })
+}
 
 // Each tag starts a box of its own: that of the last one is merged.
 fn draw_tag(
-    layout: Layout,
-    scene: &[u32],
-    prefixes: &[u32],
+    given: Given,
     lines: &mut [u32],
     ix: u64,
     head: Head,
     word: u32,
     count: u32,
-) -> Drawn
-    ensures { sheet lines.new result
-        ≡ drawn_of head.tag.monoid.path_ix (record { count = count; tag = word; bbox = empty_box }) lines.old (events_at layout scene.now prefixes.now ix head) }
+) -> Result<Pen, Stopped>
+    ensures { let g = given.entry in sheet lines.new result
+        ≡ drawn_of head.tag.monoid.path_ix (record { count = count; tag = word; bbox = empty_box }) lines.old (events_at g.layout g.scene.now g.prefixes.now ix head) }
 {
-    let tag = head.tag;
-    if tag.tag_byte % 4 == 0 {
+    if head.tag.tag_byte % 4 == 0 {
         let bbox = IntBbox::empty();
-        return Drawn::On(Pen {
+        return Ok(Pen {
             count,
             tag: word,
             bbox,
         });
     }
-    let is_stroke = head.flags / 0x8000_0000 % 2 == 1;
-    let transform = read_transform(scene, layout.transform_base, tag.monoid.trans_ix);
-    let z = transform.z;
-    let finite = all_finite(z);
-    let offset = tag.monoid.pathseg_offset;
-    let segment = read_path_segment(tag.tag_byte, is_stroke, offset, scene, layout.data_base);
-    if transform.found {
-        if finite {
-            if segment.found {
-                let points = segment.points;
-                let path = tag.monoid.path_ix;
-                return match read_shape(layout, scene, prefixes, ix, head) {
-                    ShapeRead::Found(shape) => {
-                        let reach = Reach::empty();
-                        let ink = Ink::Flows(Nib {
-                            count,
-                            tag: word,
-                            reach,
-                        });
-                        let drawn = draw_shape(lines, ink, path, head.flags, points, z, shape);
-                        drawn.dried()
-                    }
-                    ShapeRead::Refused(why) => Drawn::Stopped(why, count),
-                };
-            }
-            return Drawn::Stopped(Refusal::Outside, count);
+    match read_drawing(given, ix, head) {
+        Ok(drawing) => {
+            let nib = Nib {
+                count,
+                tag: word,
+                path: head.tag.monoid.path_ix,
+                reach: Reach::empty(),
+            };
+            let drawn = drawing.segment.draw_shape(lines, nib, drawing.shape)?;
+            Ok(drawn.dried())
         }
-        return Drawn::Stopped(Refusal::BadTransform, count);
+        Err(why) => Err(Stopped { why, count }),
     }
-    Drawn::Stopped(Refusal::Outside, count)
 }
 
+#[tactic(auto, unfolding(crate::specs::Step::change_of))]
 fn change_of(head: Head, bbox: IntBbox) -> Change
     ensures { result ≡ change_of head bbox }
 {
-    Change {
-        mark: head.tag.tag_byte / 0x10 % 2 == 1,
+    let mark = Mark {
         draw_flags: head.flags / 0x4000_0000 % 2,
         trans_ix: head.tag.monoid.trans_ix,
+    };
+    Change {
+        mark: if head.is_path() { Some(mark) } else { None },
         bbox,
     }
 }
@@ -82,7 +99,7 @@ fn change_of(head: Head, bbox: IntBbox) -> Change
 fn one_less(left: u64) -> u64
     ensures { result ≡ left - 1 }
 {
-    if left == 0 { 0 } else { left - 1 }
+    left.saturating_sub(1)
 }
 
 // An index is 64 bits wide and wraps.
@@ -94,7 +111,7 @@ fn next_index(ix: u64) -> u64
 
 // Where a tag is stopped as it draws, it is not finished: no box of it is merged.
 fn stopped_at(t: Turn, head: Head, why: Refusal, count: u32) -> Turn
-    ensures { result ≡ turn_of t head (Stopped why count) }
+    ensures { result ≡ turn_of t head (halt why count) }
 {
     let tag = t.tag;
     let at = head.tag.monoid.path_ix as usize;
@@ -104,49 +121,43 @@ fn stopped_at(t: Turn, head: Head, why: Refusal, count: u32) -> Turn
         left: 0,
         tag,
         count,
-        stop: Stop::Refused(why),
+        stop: Some(why),
         at,
         change,
     }
 }
 
-fn turn_of(t: Turn, head: Head, drawn: Drawn) -> Turn
+fn turn_of(t: Turn, head: Head, drawn: Result<Pen, Stopped>) -> Turn
     ensures { result ≡ turn_of t head drawn }
 {
     match drawn {
-        Drawn::On(pen) => {
+        Ok(pen) => {
             let at = head.tag.monoid.path_ix as usize;
             let change = change_of(head, pen.bbox);
             Turn {
                 left: one_less(t.left),
                 tag: next_index(t.tag),
                 count: pen.count,
-                stop: Stop::Going,
+                stop: None,
                 at,
                 change,
             }
         }
-        Drawn::Stopped(why, count) => stopped_at(t, head, why, count),
+        Err(s) => stopped_at(t, head, s.why, s.count),
     }
 }
 
+#[tactic(auto, unfolding(crate::specs::Step::refused_at))]
 fn refused_at(t: Turn, why: Refusal) -> Turn
     ensures { result ≡ refused_at t why }
 {
-    let bbox = IntBbox::empty();
-    let change = Change {
-        mark: false,
-        draw_flags: 0,
-        trans_ix: 0,
-        bbox,
-    };
     Turn {
         left: 0,
         tag: t.tag,
         count: t.count,
-        stop: Stop::Refused(why),
+        stop: Some(why),
         at: 0,
-        change,
+        change: Change::nothing(),
     }
 }
 
@@ -157,23 +168,17 @@ fn tag_word(ix: u64) -> u32
     (ix % 4294967296) as u32
 }
 
-pub fn step(
-    layout: Layout,
-    scene: &[u32],
-    prefixes: &[u32],
-    lines: &mut [u32],
-    n_boxes: usize,
-    t: Turn,
-) -> Turn
-    ensures { (stepped result lines.new ≡ step_of layout scene.now prefixes.now lines.old n_boxes t)
+pub fn step(given: Given, lines: &mut [u32], n_boxes: usize, t: Turn) -> Turn
+    ensures { let g = given.entry in (stepped result lines.new
+        ≡ step_of g.layout g.scene.now g.prefixes.now lines.old n_boxes t)
         × (0 < t.left → result.left < t.left) }
 {
-    match read_head(layout, scene, prefixes, n_boxes, t.tag) {
-        HeadRead::Found(head) => {
+    match given.read_head(n_boxes, t.tag) {
+        Ok(head) => {
             let word = tag_word(t.tag);
-            let drawn = draw_tag(layout, scene, prefixes, lines, t.tag, head, word, t.count);
+            let drawn = draw_tag(given, lines, t.tag, head, word, t.count);
             turn_of(t, head, drawn)
         }
-        HeadRead::Refused(why) => refused_at(t, why),
+        Err(why) => refused_at(t, why),
     }
 }

@@ -1,5 +1,5 @@
 -- How a number goes on with a byte, and where it ends. Assumes nothing.
-use Rattle.std.specs.Prelude.{◌≡◌, ℤ, get_or, drop}
+use Rattle.std.specs.Prelude.{Ok, Err, ◌≡◌, ℤ, get_or, drop}
 use Rattle.std.proofs.Math.Path.{sym, ap}
 use Rattle.std.proofs.Common.{◌∙◌, subst, add-one, drop-cons}
 use mathlib.Core.List.{List}
@@ -15,14 +15,14 @@ use Rattle.hpgl.specs.declared.reading.Num.{Num}
 use Rattle.hpgl.specs.declared.reading.Num.TheVariants.{None}
 use Rattle.hpgl.specs.declared.reading.NumStep.{NumStep}
 use Rattle.hpgl.specs.declared.reading.NumStep.TheVariants.{Goes, Done, Wrong, Beyond}
-use Rattle.hpgl.specs.declared.reading.Number.TheVariants as number_is
+use Rattle.hpgl.specs.declared.reading.Fault.TheVariants as fault_is
 use Rattle.hpgl.specs.ReadingLaws.{num_next, num_run, Numbered, Counting}
 
 -- ---- a number's bytes
 module _ (table : Table) (file : List ℕ) (start e : ℕ) (n : Num) (at : ℕ) (inv : Counting table file start e n at) (h : at < length file) (q : NumStep) (s : q ≡ num_step (range_of table) (eqb (get_or file at 0) e) n (byte_of (get_or file at 0))) where
-  byte : num_next table (λ m. num_run table e m (suc at) (drop (suc at) file)) at q ≡ num_run table e None start (drop start file)
+  byte : num_next table start (λ m. num_run table start e m (suc at) (drop (suc at) file)) at q ≡ num_run table start e None start (drop start file)
   unfolding num_run
-  byte = ap (num_next table (λ m. num_run table e m (suc at) (drop (suc at) file)) at) s ∙ ap (num_run table e n at) (sym (drop-cons file at 0 h)) ∙ inv.same
+  byte = ap (num_next table start (λ m. num_run table start e m (suc at) (drop (suc at) file)) at) s ∙ ap (num_run table start e n at) (sym (drop-cons file at 0 h)) ∙ inv.same
 
   abbrev Here : NumStep → Type 0
   Here = NumSays (range_of table) (eqb (get_or file at 0) e) n (get_or file at 0)
@@ -43,11 +43,11 @@ module _ (table : Table) (file : List ℕ) (start e : ℕ) (n : Num) (at : ℕ) 
   pub number_within : (z : ℤ) → q ≡ Done z → Within (range_of table) z
   number_within z g = (subst Here g here).2
 
-  pub number_done : (z : ℤ) → q ≡ Done z → Numbered table file start e (number_is.Whole z at)
+  pub number_done : (z : ℤ) → q ≡ Done z → Numbered table file start e (Ok (z, at))
   number_done z g = record { is = rw g at byte; inside = (inv.behind, h, number_within z g) }
 
-  pub number_wrong : q ≡ Wrong → Numbered table file start e (number_is.Wrong at)
+  pub number_wrong : q ≡ Wrong → Numbered table file start e (Err (fault_is.Wrong at))
   number_wrong g = record { is = rw g at byte; inside = tt }
 
-  pub number_beyond : q ≡ Beyond → Numbered table file start e number_is.Beyond
+  pub number_beyond : q ≡ Beyond → Numbered table file start e (Err (fault_is.Beyond start))
   number_beyond g = record { is = rw g at byte; inside = tt }

@@ -1,5 +1,5 @@
 -- A float's rounding by its bits: the exponent's field, the digits, and what code finds with them. Assumes nothing.
-use Rattle.std.specs.Prelude.{◌≡◌, refl, Bool, true, false, cond, ◌&&◌, leb, ltb, eqb, Float}
+use Rattle.std.specs.Prelude.{Option, None, Some, ◌≡◌, refl, Bool, true, false, cond, ◌&&◌, leb, ltb, eqb, Float}
 use Rattle.std.proofs.Common.{sym, ap, ◌∙◌, inl, inr, le_trans, le_of_eq, lt_of_lt_of_le, mul_assoc, mul-one, mul-le-mul, one-mul, mod-eq_of_lt, add-one, ltb→lt, nltb→le, lit<, pow_pos, pow-add, pow_mono, shl_lt, lt-ltb, le-ltb, le-leb, eq-eqb, ne_eqb}
 use Prim.Native.Nat.{ℕ, zero, suc, ◌+◌, ◌-◌, ◌*◌, ◌/◌, ◌%◌, ◌^◌, ◌≤◌, ◌<◌, compare, Ordering}
 use Rattle.std.proofs.Math.Nat.{div-eq_of_lt}
@@ -16,26 +16,25 @@ use Rattle.laws.specs.Same.{either}
 use Rattle.hpgl.specs.Text.{pick, signed_of}
 use Rattle.hpgl.specs.Form.{Range, most, range_of}
 use Rattle.hpgl.specs.Ranges.{most_few}
+use Rattle.hpgl.specs.CommandLaws.{spot_point}
 use Rattle.hpgl.specs.Rounding.{rounded_of, is_within, is_good, point_of}
 use Rattle.hpgl.specs.declared.Table.{Table}
-use Rattle.hpgl.specs.declared.rounding.Aim.{Aim}
-use Rattle.hpgl.specs.declared.rounding.Aim.TheVariants as aim-is
-use Rattle.hpgl.specs.declared.rounding.Rounded.{Rounded}
-use Rattle.hpgl.specs.declared.rounding.Rounded.TheVariants.{Bad, To}
+use Rattle.hpgl.specs.declared.rounding.Signed.{Signed}
+use Rattle.hpgl.specs.declared.rounding.Spot.{Spot}
 
 -- the size of a float below 2 ^ 24
 unfoldable pub size_of : ℕ → ℕ → ℕ
 size_of field digits = pick (ltb field 126) 0 (closest (8388608 + digits) (2 ^ (150 - field)))
 
 -- a word's coordinate: refused, or the sign and size of what it is rounded to
-abbrev pub Rounds : Range → ℕ → Rounded → Type 0
-Rounds r w Bad = is_good r (of_bits binary32 w) ≡ false
-Rounds r w (To s n) = (is_good r (of_bits binary32 w) ≡ true) × (rounded_of (of_bits binary32 w) ≡ signed_of s n)
+abbrev pub Rounds : Range → ℕ → Option Signed → Type 0
+Rounds r w None = is_good r (of_bits binary32 w) ≡ false
+Rounds r w (Some n) = (is_good r (of_bits binary32 w) ≡ true) × (rounded_of (of_bits binary32 w) ≡ signed_of n.negative n.size)
 
 -- the point of two words: refused where one of them is, or the signs and sizes
-abbrev pub Aims : Range → ℕ → ℕ → Aim → Type 0
-Aims r x y aim-is.Bad = is_good r (of_bits binary32 x) && is_good r (of_bits binary32 y) ≡ false
-Aims r x y (aim-is.To s n t m) = (is_good r (of_bits binary32 x) && is_good r (of_bits binary32 y) ≡ true) × (point_of x y ≡ record { x = signed_of s n; y = signed_of t m })
+abbrev pub Aims : Range → ℕ → ℕ → Option Spot → Type 0
+Aims r x y None = is_good r (of_bits binary32 x) && is_good r (of_bits binary32 y) ≡ false
+Aims r x y (Some p) = (is_good r (of_bits binary32 x) && is_good r (of_bits binary32 y) ≡ true) × (point_of x y ≡ spot_point p)
 
 -- ---- by how the remainder compares
 order_lt : (a b : ℕ) → a < b → compare a b ≡ Ordering.lt
@@ -175,7 +174,7 @@ digits_of : (w : ℕ) → w % 8388608 < 8388608
 digits_of w = omega arith
 
 module _ (table : Table) (w : ℕ) where
-  pub far_bad : 150 < w % 2147483648 / 8388608 → Rounds (range_of table) w Bad
+  pub far_bad : 150 < w % 2147483648 / 8388608 → Rounds (range_of table) w None
   unfolding of_bits
   far_bad h =
       let below : (range_of table).below < 16777216 = omega (arith, most_few table true) in
@@ -190,20 +189,20 @@ module _ (table : Table) (w : ℕ) where
     in_range : is_good (range_of table) (of_bits binary32 w) ≡ leb n m
     in_range = here.good (range_of table) ∙ within_size (range_of table) (leb 2147483648 w) n ∙ ap (leb n) (sym f)
 
-    pub size_bad : m < n → Rounds (range_of table) w Bad
+    pub size_bad : m < n → Rounds (range_of table) w None
     size_bad l = in_range ∙ lt-leb n m l
 
-    pub size_good : n ≤ m → Rounds (range_of table) w (To (leb 2147483648 w) n)
+    pub size_good : n ≤ m → Rounds (range_of table) w (Some (record { negative = leb 2147483648 w; size = n }))
     size_good l = (in_range ∙ le-leb n m l, here.rounded)
 
 -- ---- a point, by what code found of its two words
 module _ (r : Range) (x y : ℕ) where
-  pub aims_bad_x : Rounds r x Bad → Aims r x y aim-is.Bad
+  pub aims_bad_x : Rounds r x None → Aims r x y None
   aims_bad_x e = rw e
 
-  pub aims_bad_y : (s : Bool) (n : ℕ) → Rounds r x (To s n) → Rounds r y Bad → Aims r x y aim-is.Bad
-  aims_bad_y s n e f = rw (e.0, f)
+  pub aims_bad_y : (n : Signed) → Rounds r x (Some n) → Rounds r y None → Aims r x y None
+  aims_bad_y n e f = rw (e.0, f)
 
-  pub aims_to : (s : Bool) (n : ℕ) (t : Bool) (m : ℕ) → Rounds r x (To s n) → Rounds r y (To t m) → Aims r x y (aim-is.To s n t m)
+  pub aims_to : (n m : Signed) → Rounds r x (Some n) → Rounds r y (Some m) → Aims r x y (Some (record { x = n; y = m }))
   unfolding point_of
-  aims_to s n t m e f = (rw (e.0, f.0), rw (e.1, f.1))
+  aims_to n m e f = (rw (e.0, f.0), rw (e.1, f.1))

@@ -3,7 +3,7 @@ use Rattle.std.specs.Prelude.{◌≡◌, Bool, true, false, ◌&&◌}
 use Rattle.std.proofs.Math.Path.{refl, ap}
 use Rattle.std.proofs.Common.{sym, ◌∙◌, subst, add-zero, add-one, length-append}
 use mathlib.Core.List.{List, [], ◌∷◌, ◌++◌, append_assoc}
-use Prim.Native.Nat.{ℕ, suc, ◌+◌, ◌-◌, ◌/◌, ◌≤◌, ◌<◌}
+use Prim.Native.Nat.{ℕ, suc, ◌+◌, ◌-◌, ◌≤◌, ◌<◌}
 use Rattle.std.proofs.Math.Nat.{sub-zero}
 use native.Mathlib.Omega.{arith}
 use Rattle.std.proofs.Math.ListN.{length}
@@ -12,7 +12,8 @@ use Rattle.std.proofs.Math.Seq.{length-sets}
 use Rattle.std.specs.Float.{binary32}
 use Rattle.std.specs.Float.Ieee.{of_bits}
 use borrow.Author.Tests.{lt-ltb, le-ltb, le-leb, lt-leb, eq-eqb, ne_eqb}
-use Rattle.records.specs.Record.{count, word, path_of}
+use Rattle.records.specs.Record.{line_at, count, word, path_of}
+use Rattle.records.specs.declared.Line.{Line}
 use Rattle.hpgl.specs.Text.{numeral}
 use Rattle.hpgl.specs.TextLaws.{Stored, sets_append}
 use Rattle.hpgl.specs.Form.{Pen, up, down, letter, command, Range, range_of}
@@ -22,16 +23,14 @@ use Rattle.hpgl.specs.declared.Table.TheVariants.{New}
 use Rattle.hpgl.specs.CommandLaws.{pen_of, command_text}
 use Rattle.hpgl.specs.Rounding.{is_good, point_of}
 use Rattle.hpgl.specs.Bits.{Aims}
-use Rattle.hpgl.specs.Export.{Verdict, written, refused, no_room, Exported, exported, put, goes_on, put_line, export_from, Outcome, outcome, answer_of, counted, finish, export_of, cut_of, look_of}
-use Rattle.hpgl.specs.declared.rounding.Aim.TheVariants as aim-is
-use Rattle.hpgl.specs.declared.export.Cut.{Cut}
-use Rattle.hpgl.specs.declared.export.Cut.TheVariants.{Whole, BadNumber, NoRoom}
-use Rattle.hpgl.specs.declared.export.Last.{Last}
-use Rattle.hpgl.specs.declared.export.Last.TheVariants.{Nowhere, Ended}
-use Rattle.hpgl.specs.declared.export.Put.{Put}
-use Rattle.hpgl.specs.declared.export.Put.TheVariants as put_is
-use Rattle.hpgl.specs.declared.export.Step.{Step}
-use Rattle.hpgl.specs.declared.export.Step.TheVariants as step_is
+use Rattle.hpgl.specs.Export.{Last, Cut, Verdict, written, refused, no_room, Exported, exported, put, goes_on, put_line, export_from, Outcome, outcome, answer_of, counted, finish, export_of, cut_of, look_of}
+use Rattle.hpgl.specs.declared.rounding.Spot.{Spot}
+use Rattle.hpgl.specs.declared.export.CutError.{CutError}
+use Rattle.hpgl.specs.declared.export.CutError.TheVariants.{BadNumber, NoRoom}
+use Rattle.std.specs.Prelude.{None, Some, Result, Ok, Err}
+use Rattle.hpgl.specs.declared.lines.Reached.{Reached}
+use Rattle.hpgl.specs.declared.sink.Stop.{Stop}
+use Rattle.hpgl.specs.declared.sink.Stop.TheVariants.{Bad, Full}
 
 -- where an export's bytes go, from a place on: what takes them, its size, and what a caller is told
 pub record Sink : Type 1 where
@@ -92,43 +91,41 @@ only_counted = record {
 
 -- ---- what a text, a command, a line and a record leave
 
+-- a stop in record i
+abbrev pub in_record : Stop → ℕ → CutError
+in_record (Bad n) i = BadNumber n i
+in_record (Full n) i = NoRoom n i
+
 -- a text taken where it has room
-abbrev pub Texted : (k : Sink) → List ℕ → k.Held → ℕ → Put → k.Held → Type 0
-Texted k xs before at (put_is.On n) after = k.Kept xs before at n after × (n ≤ k.size after)
-Texted k xs before at (put_is.Bad n) after = ⊥
-Texted k xs before at (put_is.Full n) after = (n ≡ at) × (k.size before - at < length xs) × (after ≡ before)
+abbrev pub Texted : (k : Sink) → List ℕ → k.Held → ℕ → Result ℕ Stop → k.Held → Type 0
+Texted k xs before at (Ok n) after = k.Kept xs before at n after × (n ≤ k.size after)
+Texted k xs before at (Err (Bad n)) after = ⊥
+Texted k xs before at (Err (Full n)) after = (n ≡ at) × (k.size before - at < length xs) × (after ≡ before)
 
 -- what comes about with the rest behind a command or a line of record i
-abbrev pub went_on : (k : Sink) → ℕ → (ℕ → Exported) → Put → k.Held → k.Told
-went_on k i rest (put_is.On n) after = k.end n after (rest (k.size after - n))
-went_on k i rest (put_is.Bad n) after = k.say (BadNumber n i) after
-went_on k i rest (put_is.Full n) after = k.say (NoRoom n i) after
+abbrev pub went_on : (k : Sink) → ℕ → (ℕ → Exported) → Result ℕ Stop → k.Held → k.Told
+went_on k i rest (Ok n) after = k.end n after (rest (k.size after - n))
+went_on k i rest (Err e) after = k.say (Err (in_record e i)) after
 
-abbrev pub InRoom : Put → ℕ → Type 0
-InRoom (put_is.On n) room = n ≤ room
-InRoom (put_is.Bad n) room = Unit {0}
-InRoom (put_is.Full n) room = Unit {0}
+abbrev pub InRoom : Result ℕ Stop → ℕ → Type 0
+InRoom (Ok n) room = n ≤ room
+InRoom (Err e) room = Unit {0}
 
-pub record Continues (k : Sink) (part : ℕ → ℕ → (ℕ → Exported) → Exported) (before : k.Held) (at : ℕ) (r : Put) (after : k.Held) : Type 0 where
+pub record Continues (k : Sink) (part : ℕ → ℕ → (ℕ → Exported) → Exported) (before : k.Held) (at : ℕ) (r : Result ℕ Stop) (after : k.Held) : Type 0 where
   pub says : (i : ℕ) (rest : ℕ → Exported) → k.end at before (part (k.size before - at) i rest) ≡ went_on k i rest r after
   pub room : InRoom r (k.size after)
 
-abbrev pub stepped_to : (k : Sink) → Range → List ℕ → ℕ → ℕ → ℕ → Step → k.Held → k.Told
-stepped_to k g ws path i n (step_is.On a l) after = k.end a after (export_from g path ws (k.size after - a) l n (suc i))
-stepped_to k g ws path i n (step_is.Bad m) after = k.say (BadNumber m i) after
-stepped_to k g ws path i n (step_is.Full m) after = k.say (NoRoom m i) after
+abbrev pub stepped_to : (k : Sink) → Range → List ℕ → ℕ → ℕ → ℕ → Result Reached Stop → k.Held → k.Told
+stepped_to k g ws path i n (Ok r) after = k.end r.at after (export_from g path ws (k.size after - r.at) r.last n (suc i))
+stepped_to k g ws path i n (Err e) after = k.say (Err (in_record e i)) after
 
-abbrev pub StepInRoom : Step → ℕ → Type 0
-StepInRoom (step_is.On n l) room = n ≤ room
-StepInRoom (step_is.Bad n) room = Unit {0}
-StepInRoom (step_is.Full n) room = Unit {0}
+abbrev pub StepInRoom : Result Reached Stop → ℕ → Type 0
+StepInRoom (Ok r) room = r.at ≤ room
+StepInRoom (Err e) room = Unit {0}
 
-pub record Steps (k : Sink) (g : Range) (ws : List ℕ) (path i : ℕ) (last : Last) (before : k.Held) (at : ℕ) (r : Step) (after : k.Held) : Type 0 where
-  pub says : (n : ℕ) → k.end at before (export_from g path ws (k.size before - at) last (suc n) i) ≡ stepped_to k g ws path i n r after
+pub record Steps (k : Sink) (g : Range) (ws : List ℕ) (path i : ℕ) (from : Reached) (before : k.Held) (r : Result Reached Stop) (after : k.Held) : Type 0 where
+  pub says : (n : ℕ) → k.end from.at before (export_from g path ws (k.size before - from.at) from.last (suc n) i) ≡ stepped_to k g ws path i n r after
   pub room : StepInRoom r (k.size after)
-
-pub on_room : (q : Put) (a room : ℕ) → q ≡ put_is.On a → InRoom q room → a ≤ room
-on_room q a room e h = rw e at h
 
 -- ---- a command, and the bytes behind it
 regroup : (a b xs : List ℕ) → a ++ (44 ∷ (b ++ (59 ∷ xs))) ≡ (a ++ (44 ∷ (b ++ (59 ∷ [])))) ++ xs
@@ -157,16 +154,16 @@ module _ (g : Range) (p : Pen) (x y room i : ℕ) (rest : ℕ → Exported) wher
 module _ (k : Sink) (g : Range) where
   -- by what code found of the two words
   module _ (draws : Bool) (x y : ℕ) (before : k.Held) (at : ℕ) where
-    abbrev Here : Put → k.Held → Type 0
+    abbrev Here : Result ℕ Stop → k.Held → Type 0
     Here = Continues k (put g (pen_of draws) x y) before at
 
-    pub put_bad : Aims g x y aim-is.Bad → Here (put_is.Bad at) before
+    pub put_bad : Aims g x y None → Here (Err (Bad at)) before
     unfolding answer_of
     put_bad e = record { says = λ i rest. ap (k.end at before) (put_refused g (pen_of draws) x y (k.size before - at) i rest e) ∙ k.nothing at before (refused i); room = tt }
 
-    put_good : is_good g (of_bits binary32 x) && is_good g (of_bits binary32 y) ≡ true → (q : Put) (after : k.Held) → Texted k (command (pen_of draws) (point_of x y) []) before at q after → Here q after
+    put_good : is_good g (of_bits binary32 x) && is_good g (of_bits binary32 y) ≡ true → (q : Result ℕ Stop) (after : k.Held) → Texted k (command (pen_of draws) (point_of x y) []) before at q after → Here q after
     unfolding answer_of
-    put_good e (put_is.On n) after t =
+    put_good e (Ok n) after t =
         let c = command (pen_of draws) (point_of x y) [] in
         let same : k.size after ≡ k.size before = k.same t.0 in
         let to : n ≡ at + length c = k.place t.0 in
@@ -176,8 +173,8 @@ module _ (k : Sink) (g : Range) where
               ∙ k.then t.0 (rest (k.size after - n));
           room = t.1;
         }
-    put_good e (put_is.Bad n) after t = absurd t
-    put_good e (put_is.Full n) after t =
+    put_good e (Err (Bad n)) after t = absurd t
+    put_good e (Err (Full n)) after t =
         record {
           says = λ i rest.
               ap (k.end at before) (put_full g (pen_of draws) x y (k.size before - at) i rest e t.1)
@@ -185,120 +182,102 @@ module _ (k : Sink) (g : Range) where
           room = tt;
         }
 
-    pub put_text : (s : Bool) (n : ℕ) (t : Bool) (m : ℕ) → Aims g x y (aim-is.To s n t m) → (q : Put) (after : k.Held) → Texted k (command_text draws s n t m) before at q after → Here q after
+    pub put_text : (p : Spot) → Aims g x y (Some p) → (q : Result ℕ Stop) (after : k.Held) → Texted k (command_text draws p) before at q after → Here q after
     unfolding command_text
-    put_text s n t m e q after h = put_good e.0 q after (subst (λ (p : Point). Texted k (command (pen_of draws) p []) before at q after) (sym e.1) h)
+    put_text p e q after h = put_good e.0 q after (subst (λ (p : Point). Texted k (command (pen_of draws) p []) before at q after) (sym e.1) h)
 
   -- ---- a line
   module _ (x y z w : ℕ) (before : k.Held) (at : ℕ) where
-    abbrev Lined : Bool → Put → k.Held → Type 0
+    abbrev Lined : Bool → Result ℕ Stop → k.Held → Type 0
     Lined b = Continues k (put_line g b x y z w) before at
 
-    pub line_joined : (b : Bool) (q : Put) (after : k.Held) → b ≡ true → Continues k (put g down z w) before at q after → Lined b q after
+    pub line_joined : (b : Bool) (q : Result ℕ Stop) (after : k.Held) → b ≡ true → Continues k (put g down z w) before at q after → Lined b q after
     unfolding put_line
     line_joined b q after e h = rw e h
 
-    module _ (b : Bool) (q : Put) (mid : k.Held) (e : b ≡ false) (u : Continues k (put g up x y) before at q mid) where
-      pub line_then : (a : ℕ) (q' : Put) (after : k.Held) → q ≡ put_is.On a → Continues k (put g down z w) mid a q' after → Lined b q' after
+    module _ (b : Bool) (mid : k.Held) (e : b ≡ false) where
+      pub line_then : (a : ℕ) → Continues k (put g up x y) before at (Ok a) mid → (q : Result ℕ Stop) (after : k.Held) → Continues k (put g down z w) mid a q after → Lined b q after
       unfolding put_line
-      line_then a q' after h d =
-          let v : Continues k (put g up x y) before at (put_is.On a) mid = rw h at u in
-          rw e (record { says = λ i rest. v.says i (λ m. put g down z w m i rest) ∙ d.says i rest; room = d.room })
+      line_then a u q after d = rw e (record { says = λ i rest. u.says i (λ m. put g down z w m i rest) ∙ d.says i rest; room = d.room })
 
-      pub line_bad : (n : ℕ) → q ≡ put_is.Bad n → Lined b (put_is.Bad n) mid
+      pub line_stopped : (r : Stop) → Continues k (put g up x y) before at (Err r) mid → Lined b (Err r) mid
       unfolding put_line
-      line_bad n h =
-          let v : Continues k (put g up x y) before at (put_is.Bad n) mid = rw h at u in
-          rw e (record { says = λ i rest. v.says i (λ m. put g down z w m i rest); room = tt })
-
-      pub line_full : (n : ℕ) → q ≡ put_is.Full n → Lined b (put_is.Full n) mid
-      unfolding put_line
-      line_full n h =
-          let v : Continues k (put g up x y) before at (put_is.Full n) mid = rw h at u in
-          rw e (record { says = λ i rest. v.says i (λ m. put g down z w m i rest); room = tt })
+      line_stopped r u = rw e (record { says = λ i rest. u.says i (λ m. put g down z w m i rest); room = tt })
 
   -- ---- a record
-  module _ (ws : List ℕ) (path i : ℕ) (last : Last) (before : k.Held) (at : ℕ) where
-    pub other_path : (path_of ws i ≡ path → ⊥) → at ≤ k.size before → Steps k g ws path i last before at (step_is.On at last) before
+  module _ (ws : List ℕ) (path i : ℕ) (from : Reached) (before : k.Held) where
+    pub other_path : (path_of ws i ≡ path → ⊥) → from.at ≤ k.size before → Steps k g ws path i from before (Ok from) before
     unfolding export_from
     other_path ne h = record { says = λ n. rw (ne_eqb (path_of ws i) path ne); room = h }
 
     module _ (is : path_of ws i ≡ path) where
       -- the line of record i, before the records behind it
-      turned : (n : ℕ) → export_from g path ws (k.size before - at) last (suc n) i
-          ≡ put_line g (goes_on last (word ws i 2) (word ws i 3)) (word ws i 2) (word ws i 3) (word ws i 4) (word ws i 5) (k.size before - at) i
-          (λ m. export_from g path ws m (Ended (word ws i 4) (word ws i 5)) n (suc i))
+      turned : (n : ℕ) → export_from g path ws (k.size before - from.at) from.last (suc n) i
+          ≡ put_line g (goes_on from.last (word ws i 2) (word ws i 3)) (word ws i 2) (word ws i 3) (word ws i 4) (word ws i 5) (k.size before - from.at) i
+          (λ m. export_from g path ws m (Some (word ws i 4, word ws i 5)) n (suc i))
       unfolding export_from
       turned n = rw (eq-eqb (path_of ws i) path is)
 
-      abbrev step_of : Put → ℕ → ℕ → Step
-      step_of (put_is.On a) z w = step_is.On a (Ended z w)
-      step_of (put_is.Bad n) z w = step_is.Bad n
-      step_of (put_is.Full n) z w = step_is.Full n
+      abbrev step_of : Result ℕ Stop → ℕ → ℕ → Result Reached Stop
+      step_of (Ok a) z w = Ok (record { at = a; last = Some (z, w) })
+      step_of (Err e) z w = Err e
 
-      by_result : (q : Put) (after : k.Held) → Continues k (put_line g (goes_on last (word ws i 2) (word ws i 3)) (word ws i 2) (word ws i 3) (word ws i 4) (word ws i 5)) before at q after → Steps k g ws path i last before at (step_of q (word ws i 4) (word ws i 5)) after
-      by_result (put_is.On a) after c = record { says = λ n. ap (k.end at before) (turned n) ∙ c.says i (λ m. export_from g path ws m (Ended (word ws i 4) (word ws i 5)) n (suc i)); room = c.room }
-      by_result (put_is.Bad m) after c = record { says = λ n. ap (k.end at before) (turned n) ∙ c.says i (λ m. export_from g path ws m (Ended (word ws i 4) (word ws i 5)) n (suc i)); room = tt }
-      by_result (put_is.Full m) after c = record { says = λ n. ap (k.end at before) (turned n) ∙ c.says i (λ m. export_from g path ws m (Ended (word ws i 4) (word ws i 5)) n (suc i)); room = tt }
+      by_result : (q : Result ℕ Stop) (after : k.Held) → Continues k (put_line g (goes_on from.last (word ws i 2) (word ws i 3)) (word ws i 2) (word ws i 3) (word ws i 4) (word ws i 5)) before from.at q after → Steps k g ws path i from before (step_of q (word ws i 4) (word ws i 5)) after
+      by_result (Ok a) after c = record { says = λ n. ap (k.end from.at before) (turned n) ∙ c.says i (λ m. export_from g path ws m (Some (word ws i 4, word ws i 5)) n (suc i)); room = c.room }
+      by_result (Err e) after c = record { says = λ n. ap (k.end from.at before) (turned n) ∙ c.says i (λ m. export_from g path ws m (Some (word ws i 4, word ws i 5)) n (suc i)); room = tt }
 
-      pub its_line : (x y z w : ℕ) (b : Bool) → x ≡ word ws i 2 → y ≡ word ws i 3 → z ≡ word ws i 4 → w ≡ word ws i 5 → b ≡ goes_on last x y → (q p : Put) (after : k.Held) → Continues k (put_line g b x y z w) before at q after → q ≡ p → Steps k g ws path i last before at (step_of p z w) after
-      its_line x y z w b ex ey ez ew eb q p after c e = rw (sym e, ez, ew) (by_result q after (rw (eb, ex, ey, ez, ew) at c))
+      pub its_line : (l : Line) (b : Bool) → l ≡ line_at ws i → b ≡ goes_on from.last l.x l.y → (q : Result ℕ Stop) (after : k.Held) → Continues k (put_line g b l.x l.y l.z l.w) before from.at q after → Steps k g ws path i from before (step_of q l.z l.w) after
+      its_line l b el eb q after c = rw el (by_result q after (rw (eb, el) at c))
 
 -- ---- the records left
 unfoldable pub left : (k : Sink) → Range → List ℕ → ℕ → k.Held → ℕ → Last → ℕ → k.Told
 left k g ws path h at last i = k.end at h (export_from g path ws (k.size h - at) last (count ws - i) i)
 
-module _ (k : Sink) (g : Range) (ws : List ℕ) (path : ℕ) (held : k.Held) (at : ℕ) (last : Last) (i : ℕ) where
-  pub none_left : count ws ≤ i → k.say (Whole at) held ≡ left k g ws path held at last i
+module _ (k : Sink) (g : Range) (ws : List ℕ) (path : ℕ) (held : k.Held) (from : Reached) (i : ℕ) where
+  pub none_left : count ws ≤ i → k.say (Ok from.at) held ≡ left k g ws path held from.at from.last i
   unfolding left export_from answer_of
-  none_left h = rw (let e : count ws - i ≡ 0 = omega arith in e, left) (sym (k.nothing at held written))
+  none_left h = rw (let e : count ws - i ≡ 0 = omega arith in e, left) (sym (k.nothing from.at held written))
 
-  module _ (h : i < count ws) (q : Step) (after : k.Held) (s : Steps k g ws path i last held at q after) where
-    one_less : left k g ws path held at last i ≡ stepped_to k g ws path i (count ws - suc i) q after
+  module _ (h : i < count ws) (q : Result Reached Stop) (after : k.Held) (s : Steps k g ws path i from held q after) where
+    one_less : left k g ws path held from.at from.last i ≡ stepped_to k g ws path i (count ws - suc i) q after
     unfolding left
     one_less = rw (let e : count ws - i ≡ suc (count ws - suc i) = omega arith in e, left) (s.says (count ws - suc i))
 
-    pub record_on : (a : ℕ) (l : Last) → q ≡ step_is.On a l → left k g ws path after a l (i + 1) ≡ left k g ws path held at last i
+    pub record_on : (r : Reached) → q ≡ Ok r → left k g ws path after r.at r.last (i + 1) ≡ left k g ws path held from.at from.last i
     unfolding left
-    record_on a l e = rw (add-one i) (sym (rw e at one_less))
+    record_on r e = rw (add-one i) (sym (rw e at one_less))
 
-    pub record_bad : (m : ℕ) → q ≡ step_is.Bad m → k.say (BadNumber m i) after ≡ left k g ws path held at last i
-    record_bad m e = sym (rw e at one_less)
+    pub record_stopped : (e : Stop) → q ≡ Err e → k.say (Err (in_record e i)) after ≡ left k g ws path held from.at from.last i
+    record_stopped e f = sym (rw f at one_less)
 
-    pub record_full : (m : ℕ) → q ≡ step_is.Full m → k.say (NoRoom m i) after ≡ left k g ws path held at last i
-    record_full m e = sym (rw e at one_less)
-
-    pub step_room : (a : ℕ) (l : Last) → q ≡ step_is.On a l → a ≤ k.size after
-    step_room a l e = rw e at s.room
+    pub step_room : (r : Reached) → q ≡ Ok r → r.at ≤ k.size after
+    step_room r e = rw e at s.room
 
 -- what holds before each record, from where the loop began
-pub record Going (k : Sink) (g : Range) (ws : List ℕ) (path : ℕ) (held₀ : k.Held) (start n : ℕ) (held : k.Held) (at : ℕ) (last : Last) (i : ℕ) : Type 0 where
-  pub same : left k g ws path held at last i ≡ left k g ws path held₀ start Nowhere 0
-  pub room : at ≤ k.size held
-  pub kept : k.size held ≡ k.size held₀
-  pub count : n ≡ length ws / 6
-  pub done : i ≤ n
+pub record Going (k : Sink) (g : Range) (ws : List ℕ) (path : ℕ) (held₀ : k.Held) (start : ℕ) (held : k.Held) (from : Reached) (i : ℕ) : Type 0 where
+  pub same : left k g ws path held from.at from.last i ≡ left k g ws path held₀ start None 0
+  pub room : from.at ≤ k.size held
 
 -- ---- the whole file
 module _ (ws : List ℕ) (path : ℕ) where
   module _ (bs : List ℕ) where
-    pub no_opening : length bs < 3 → outcome (NoRoom 0 0) bs ≡ cut_of path ws bs
+    pub no_opening : length bs < 3 → outcome (Err (NoRoom 0 0)) bs ≡ cut_of path ws bs
     unfolding cut_of export_of finish answer_of
     no_opening h = rw (lt-ltb (length bs) 3 h)
 
-    pub opened : 3 ≤ length bs → left in_bytes (range_of New) ws path (sets bs 0 (73 ∷ 78 ∷ 59 ∷ [])) 3 Nowhere 0 ≡ cut_of path ws bs
+    pub opened : 3 ≤ length bs → left in_bytes (range_of New) ws path (sets bs 0 (73 ∷ 78 ∷ 59 ∷ [])) 3 None 0 ≡ cut_of path ws bs
     unfolding cut_of export_of left
     opened h =
         rw (le-ltb (length bs) 3 h, length-sets bs 0 (73 ∷ 78 ∷ 59 ∷ []), sub-zero (count ws))
-        (sym (stored_finish {xs = 73 ∷ 78 ∷ 59 ∷ []} (record { place = refl; bytes = refl }) (export_from (range_of New) path ws (length bs - 3) Nowhere (count ws) 0)))
+        (sym (stored_finish {xs = 73 ∷ 78 ∷ 59 ∷ []} (record { place = refl; bytes = refl }) (export_from (range_of New) path ws (length bs - 3) None (count ws) 0)))
 
   module _ (table : Table) (room : ℕ) where
-    pub no_look : room < 3 → NoRoom 0 0 ≡ look_of table path room ws
+    pub no_look : room < 3 → Err (NoRoom 0 0) ≡ look_of table path room ws
     unfolding look_of export_of answer_of
     no_look h = rw (lt-ltb room 3 h)
 
-    pub looked : 3 ≤ room → left only_counted (range_of table) ws path room 3 Nowhere 0 ≡ look_of table path room ws
+    pub looked : 3 ≤ room → left only_counted (range_of table) ws path room 3 None 0 ≡ look_of table path room ws
     unfolding look_of export_of left
     looked h =
         rw (le-ltb room 3 h, sub-zero (count ws))
-        (sym (counted_behind (73 ∷ 78 ∷ 59 ∷ []) 0 3 refl (export_from (range_of table) path ws (room - 3) Nowhere (count ws) 0)))
+        (sym (counted_behind (73 ∷ 78 ∷ 59 ∷ []) 0 3 refl (export_from (range_of table) path ws (room - 3) None (count ws) 0)))

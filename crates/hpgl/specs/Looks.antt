@@ -18,15 +18,13 @@ use Rattle.hpgl.specs.Ranges.{most_new}
 use Rattle.hpgl.specs.Reading.{complete, answer, read_of}
 use Rattle.hpgl.specs.Numbers.{on}
 use Rattle.hpgl.specs.Rounding.{is_good, point_of}
-use Rattle.hpgl.specs.Export.{Verdict, written, refused, no_room, Exported, exported, put, goes_on, put_line, export_from, export_of, rounded_lines, outcome, answer_of, finish, cut_of, look_of}
+use Rattle.hpgl.specs.Export.{Last, Verdict, written, refused, no_room, Exported, exported, put, goes_on, put_line, export_from, export_of, rounded_lines, outcome, answer_of, finish, cut_of, look_of}
 use Rattle.hpgl.specs.ExportLaws.{command_more}
 use Rattle.hpgl.specs.RoundTrip.{is_written, round_trip}
 use Rattle.hpgl.specs.Tables.{export_same}
 use Rattle.hpgl.specs.declared.Table.{Table}
 use Rattle.hpgl.specs.declared.Table.TheVariants.{New}
-use Rattle.hpgl.specs.declared.export.Cut.TheVariants.{Whole}
-use Rattle.hpgl.specs.declared.export.Last.{Last}
-use Rattle.hpgl.specs.declared.export.Last.TheVariants.{Nowhere, Ended}
+use Rattle.std.specs.Prelude.{None, Some, Ok}
 
 -- ---- what stands has room
 module _ (g : Range) where
@@ -56,20 +54,20 @@ module _ (g : Range) where
       let y = word ws i 3 in
       let z = word ws i 4 in
       let w = word ws i 5 in
-      let rest : ℕ → Exported = λ m. export_from g path ws m (Ended z w) n (suc i) in
+      let rest : ℕ → Exported = λ m. export_from g path ws m (Some (z, w)) n (suc i) in
       on (λ e. length e.bytes ≤ room) (eqb (path_of ws i) path) (put_line g (goes_on last x y) x y z w room i rest) (export_from g path ws room last n (suc i))
-      (λ t. line_room (goes_on last x y) x y z w room i rest (λ m. from_room path ws n m (Ended z w) (suc i)))
+      (λ t. line_room (goes_on last x y) x y z w room i rest (λ m. from_room path ws n m (Some (z, w)) (suc i)))
       (λ t. from_room path ws n room last (suc i))
 
   pub stands_in_room : (path room : ℕ) (ws : List ℕ) → length (export_of g path room ws).bytes ≤ room
   unfolding export_of
   stands_in_room path room ws =
-      let e = export_from g path ws (room - 3) Nowhere (count ws) 0 in
+      let e = export_from g path ws (room - 3) None (count ws) 0 in
       on (λ e. length e.bytes ≤ room) (ltb room 3) (exported [] (no_room 0)) (exported (73 ∷ 78 ∷ 59 ∷ e.bytes) e.verdict)
-      (λ t. omega arith) (λ t. omega (arith, from_room path ws (count ws) (room - 3) Nowhere 0, nltb→le room 3 t))
+      (λ t. omega arith) (λ t. omega (arith, from_room path ws (count ws) (room - 3) None 0, nltb→le room 3 t))
 
 -- ---- a look that finds room for the whole file
-whole_written : (v : Verdict) (m n : ℕ) → answer_of v m ≡ Whole n → T (is_written v) × (n ≡ m)
+whole_written : (v : Verdict) (m n : ℕ) → answer_of v m ≡ Ok n → T (is_written v) × (n ≡ m)
 unfolding answer_of
 whole_written written m n e = (tt, cc)
 whole_written (refused i) m n e = absurd (let z : ◌≡◌ {A = ℕ} 0 1 = cc in let b : ⊥ = omega arith in b)
@@ -77,7 +75,7 @@ whole_written (no_room i) m n e = absurd (let z : ◌≡◌ {A = ℕ} 0 1 = cc i
 
 module _ (table : Table) (path : ℕ) (ws : List ℕ) (n : ℕ) where
   -- the whole file is written, of that length
-  module _ (room : ℕ) (h : look_of table path room ws ≡ Whole n) where
+  module _ (room : ℕ) (h : look_of table path room ws ≡ Ok n) where
     pub look_written : T (is_written (export_of (range_of table) path room ws).verdict)
     unfolding look_of
     look_written = let e = export_of (range_of table) path room ws in (whole_written e.verdict (0 + length e.bytes) n h).0
@@ -91,7 +89,7 @@ module _ (table : Table) (path : ℕ) (ws : List ℕ) (n : ℕ) where
     look_reads = round_trip (range_of table) path room ws look_written
 
   -- the export accepts, and writes that file before the bytes that it leaves
-  pub look_cuts : (bs : List ℕ) → look_of table path (length bs) ws ≡ Whole n → cut_of path ws bs ≡ outcome (Whole n) ((export_of (range_of table) path (length bs) ws).bytes ++ drop n bs)
+  pub look_cuts : (bs : List ℕ) → look_of table path (length bs) ws ≡ Ok n → cut_of path ws bs ≡ outcome (Ok n) ((export_of (range_of table) path (length bs) ws).bytes ++ drop n bs)
   unfolding cut_of finish look_of
   look_cuts bs h =
       let e = export_of (range_of table) path (length bs) ws in

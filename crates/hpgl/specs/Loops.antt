@@ -15,7 +15,7 @@ use Rattle.hpgl.specs.Rounding.{point_of}
 use Rattle.hpgl.specs.Export.{Exported, exported, no_room, put, goes_on, put_line, export_from, export_of, rounded_from, rounded_lines}
 use Rattle.hpgl.specs.RoundTrip.{is_written, put_says, line_of}
 use Rattle.hpgl.specs.declared.Point.{Point}
-use Rattle.hpgl.specs.declared.export.Last.TheVariants.{Nowhere, Ended}
+use Rattle.std.specs.Prelude.{None, Some}
 
 -- ---- loops among records
 
@@ -120,18 +120,18 @@ module _ (r : Range) (path : ℕ) (ws : List ℕ) (n i : ℕ) where
   w = word ws i 5
 
   abbrev rest : ℕ → Exported
-  rest m = export_from r path ws m (Ended z w) n (suc i)
+  rest m = export_from r path ws m (Some (z, w)) n (suc i)
 
   abbrev tail : List Line
   tail = rounded_from path ws n (suc i)
 
   abbrev Holds : ℕ → ℕ → ℕ → ℕ → Type 0
-  Holds a b x y = Within path ws n (suc i) a b x y → (room : ℕ) → T (is_written (export_from r path ws room (Ended x y) n (suc i)).verdict) → Back a b x y (export_from r path ws room (Ended x y) n (suc i)).bytes tail
+  Holds a b x y = Within path ws n (suc i) a b x y → (room : ℕ) → T (is_written (export_from r path ws room (Some (x, y)) n (suc i)).verdict) → Back a b x y (export_from r path ws room (Some (x, y)) n (suc i)).bytes tail
 
   module _ (holds : (a b x y : ℕ) → Holds a b x y) where
     one_more_lem : (a b x y room : ℕ) (own : Bool) → Turn own (Within path ws n (suc i)) u v z w a b x y
-        → T (is_written (pick own (put_line r (eqb x u && eqb y v) u v z w room i rest) (export_from r path ws room (Ended x y) n (suc i))).verdict)
-        → Back a b x y (pick own (put_line r (eqb x u && eqb y v) u v z w room i rest) (export_from r path ws room (Ended x y) n (suc i))).bytes (pick own (line_of u v z w ∷ tail) tail)
+        → T (is_written (pick own (put_line r (eqb x u && eqb y v) u v z w room i rest) (export_from r path ws room (Some (x, y)) n (suc i))).verdict)
+        → Back a b x y (pick own (put_line r (eqb x u && eqb y v) u v z w room i rest) (export_from r path ws room (Some (x, y)) n (suc i))).bytes (pick own (line_of u v z w ∷ tail) tail)
     one_more_lem a b x y room false h t = holds a b x y h room t
     one_more_lem a b x y room true h t =
         turns r u v z w i rest tail (Within path ws n (suc i)) (λ a b k m. holds a b z w k m) a b x y h (eqb x u && eqb y v)
@@ -139,18 +139,18 @@ module _ (r : Range) (path : ℕ) (ws : List ℕ) (n i : ℕ) where
         (λ e f. and_i (eqb x u) (eqb y v) (subst (λ (k : ℕ). T (eqb x k)) e (eqb_refl x)) (subst (λ (k : ℕ). T (eqb y k)) f (eqb_refl y))) room t
 
     first_line : (room : ℕ) (own : Bool) → First own (Loops path ws n (suc i)) (Within path ws n (suc i) u v z w)
-        → ((room : ℕ) → Loops path ws n (suc i) → T (is_written (export_from r path ws room Nowhere n (suc i)).verdict) → Shut (export_from r path ws room Nowhere n (suc i)).bytes tail)
-        → T (is_written (pick own (put_line r false u v z w room i rest) (export_from r path ws room Nowhere n (suc i))).verdict)
-        → Shut (pick own (put_line r false u v z w room i rest) (export_from r path ws room Nowhere n (suc i))).bytes (pick own (line_of u v z w ∷ tail) tail)
+        → ((room : ℕ) → Loops path ws n (suc i) → T (is_written (export_from r path ws room None n (suc i)).verdict) → Shut (export_from r path ws room None n (suc i)).bytes tail)
+        → T (is_written (pick own (put_line r false u v z w room i rest) (export_from r path ws room None n (suc i))).verdict)
+        → Shut (pick own (put_line r false u v z w room i rest) (export_from r path ws room None n (suc i))).bytes (pick own (line_of u v z w ∷ tail) tail)
     first_line room false h before t = before room h t
     first_line room true h before t = opens r u v z w i rest tail (Within path ws n (suc i)) (λ a b k m. holds a b z w k m) h room t
 
-within_closed : (r : Range) (path : ℕ) (ws : List ℕ) (n i a b x y : ℕ) → Within path ws n i a b x y → (room : ℕ) → T (is_written (export_from r path ws room (Ended x y) n i).verdict) → Back a b x y (export_from r path ws room (Ended x y) n i).bytes (rounded_from path ws n i)
+within_closed : (r : Range) (path : ℕ) (ws : List ℕ) (n i a b x y : ℕ) → Within path ws n i a b x y → (room : ℕ) → T (is_written (export_from r path ws room (Some (x, y)) n i).verdict) → Back a b x y (export_from r path ws room (Some (x, y)) n i).bytes (rounded_from path ws n i)
 unfolding export_from rounded_from Within goes_on downs chains_text along lines_of end_of AllClosed
 within_closed r path ws zero i a b x y h room t = record { points = []; chains = []; bytes = refl; lines = refl; back = same_point_lem h.0 h.1; closed = tt }
 within_closed r path ws (suc n) i a b x y h room t = one_more_lem r path ws n i (within_closed r path ws n (suc i)) a b x y room (eqb (path_of ws i) path) h t
 
-loops_closed : (r : Range) (path : ℕ) (ws : List ℕ) (n i room : ℕ) → Loops path ws n i → T (is_written (export_from r path ws room Nowhere n i).verdict) → Shut (export_from r path ws room Nowhere n i).bytes (rounded_from path ws n i)
+loops_closed : (r : Range) (path : ℕ) (ws : List ℕ) (n i room : ℕ) → Loops path ws n i → T (is_written (export_from r path ws room None n i).verdict) → Shut (export_from r path ws room None n i).bytes (rounded_from path ws n i)
 unfolding export_from rounded_from Loops goes_on chains_text lines_of AllClosed
 loops_closed r path ws zero i room h t = record { chains = []; bytes = refl; lines = refl; closed = tt }
 loops_closed r path ws (suc n) i room h t = first_line r path ws n i (within_closed r path ws n (suc i)) room (eqb (path_of ws i) path) h (loops_closed r path ws n (suc i)) t
@@ -159,7 +159,7 @@ loops_closed r path ws (suc n) i room h t = first_line r path ws n i (within_clo
 pub export_closed : (r : Range) (path room : ℕ) (ws : List ℕ) → Loops path ws (count ws) 0 → T (is_written (export_of r path room ws).verdict) → (cs : List Chain) × ((export_of r path room ws).bytes ≡ file_text cs) × (rounded_lines path ws ≡ lines_of cs) × AllClosed cs
 unfolding export_of file_text rounded_lines
 export_closed r path room ws l =
-    let body = export_from r path ws (room - 3) Nowhere (count ws) 0 in
+    let body = export_from r path ws (room - 3) None (count ws) 0 in
     let P : Exported → Type 0 = λ e. T (is_written e.verdict) → (cs : List Chain) × (e.bytes ≡ 73 ∷ 78 ∷ 59 ∷ chains_text cs) × (rounded_lines path ws ≡ lines_of cs) × AllClosed cs in
     on P (ltb room 3) (exported [] (no_room 0)) (exported (73 ∷ 78 ∷ 59 ∷ body.bytes) body.verdict) (λ h w. absurd w)
     (λ h w. let c : Shut body.bytes (rounded_lines path ws) = loops_closed r path ws (count ws) 0 (room - 3) l w in

@@ -17,12 +17,11 @@ use Rattle.hpgl.specs.Ranges.{most_new}
 use Rattle.hpgl.specs.Reading.{complete, answer, read_of}
 use Rattle.hpgl.specs.Numbers.{on}
 use Rattle.hpgl.specs.Rounding.{is_within, is_good, rounded_of, point_of}
-use Rattle.hpgl.specs.Export.{refused, no_room, Exported, exported, put, goes_on, put_line, export_from, export_of, rounded_lines}
+use Rattle.hpgl.specs.Export.{Last, refused, no_room, Exported, exported, put, goes_on, put_line, export_from, export_of, rounded_lines}
 use Rattle.hpgl.specs.RoundTrip.{is_written, round_trip}
 use Rattle.hpgl.specs.declared.Table.{Table}
 use Rattle.hpgl.specs.declared.Table.TheVariants.{Old, New}
-use Rattle.hpgl.specs.declared.export.Last.{Last}
-use Rattle.hpgl.specs.declared.export.Last.TheVariants.{Nowhere, Ended}
+use Rattle.std.specs.Prelude.{None, Some}
 
 picks : {A : Type 0} (t : Bool) (a b : A) → T t → pick t a b ≡ a
 picks true a b h = refl
@@ -85,19 +84,19 @@ module _ (r w : Range) (wide : (s : Bool) → most r s ≤ most w s) where
       let z = word ws i 4 in
       let v = word ws i 5 in
       let b = goes_on last x y in
-      let rest : ℕ → Exported = λ m. export_from r path ws m (Ended z v) n (suc i) in
-      let more : ℕ → Exported = λ m. export_from w path ws m (Ended z v) n (suc i) in
+      let rest : ℕ → Exported = λ m. export_from r path ws m (Some (z, v)) n (suc i) in
+      let more : ℕ → Exported = λ m. export_from w path ws m (Some (z, v)) n (suc i) in
       pick_same (eqb (path_of ws i) path) (put_line r b x y z v room i rest) (export_from r path ws room last n (suc i)) (put_line w b x y z v room i more) (export_from w path ws room last n (suc i))
-      (line_same b x y z v room i rest more (λ m. from_same path ws n m (Ended z v) (suc i)))
+      (line_same b x y z v room i rest more (λ m. from_same path ws n m (Some (z, v)) (suc i)))
       (from_same path ws n room last (suc i)) t
 
   pub export_same : (path room : ℕ) (ws : List ℕ) → T (is_written (export_of r path room ws).verdict) → export_of w path room ws ≡ export_of r path room ws
   unfolding export_of
   export_same path room ws t =
-      let f : Range → Exported = λ k. export_from k path ws (room - 3) Nowhere (count ws) 0 in
+      let f : Range → Exported = λ k. export_from k path ws (room - 3) None (count ws) 0 in
       let full : Exported → Exported = λ e. exported (73 ∷ 78 ∷ 59 ∷ e.bytes) e.verdict in
       pick_same (ltb room 3) (exported [] (no_room 0)) (full (f r)) (exported [] (no_room 0)) (full (f w)) (λ h. refl)
-      (λ h. ap full (from_same path ws (count ws) (room - 3) Nowhere 0 h)) t
+      (λ h. ap full (from_same path ws (count ws) (room - 3) None 0 h)) t
 
 -- what the export accepted with the old limit comes out byte for byte the same
 pub old_same : (path room : ℕ) (ws : List ℕ) → T (is_written (export_of (range_of Old) path room ws).verdict) → export_of (range_of New) path room ws ≡ export_of (range_of Old) path room ws

@@ -14,10 +14,9 @@ use Rattle.hpgl.specs.Text.{pick}
 use Rattle.hpgl.specs.Form.{Pen, up, down, command, Range}
 use Rattle.hpgl.specs.Numbers.{on}
 use Rattle.hpgl.specs.Rounding.{is_good, Taken, point_of}
-use Rattle.hpgl.specs.Export.{refused, no_room, Exported, exported, put, goes_on, put_line, export_from, export_of}
+use Rattle.hpgl.specs.Export.{Last, refused, no_room, Exported, exported, put, goes_on, put_line, export_from, export_of}
 use Rattle.hpgl.specs.RoundTrip.{is_written}
-use Rattle.hpgl.specs.declared.export.Last.{Last}
-use Rattle.hpgl.specs.declared.export.Last.TheVariants.{Nowhere, Ended}
+use Rattle.std.specs.Prelude.{None, Some}
 
 -- ---- one line
 
@@ -43,13 +42,13 @@ line_taken r false x y z w room i rest h t =
 -- ---- record by record
 
 abbrev LastTaken : Range → Last → Type 0
-LastTaken r Nowhere = Unit {0}
-LastTaken r (Ended x y) = Taken r x y
+LastTaken r None = Unit {0}
+LastTaken r (Some (x, y)) = Taken r x y
 
 goes_on_taken : (r : Range) (last : Last) (x y : ℕ) → LastTaken r last → T (goes_on last x y) → Taken r x y
 unfolding goes_on
-goes_on_taken r Nowhere x y h t = absurd t
-goes_on_taken r (Ended a b) x y h t =
+goes_on_taken r None x y h t = absurd t
+goes_on_taken r (Some (a, b)) x y h t =
     subst (λ (k : ℕ). Taken r x k) (eqb→eq b y (and_r (eqb a x) (eqb b y) t)) (subst (λ (k : ℕ). Taken r k b) (eqb→eq a x (and_l (eqb a x) (eqb b y) t)) h)
 
 module _ (r : Range) (path : ℕ) (ws : List ℕ) where
@@ -66,7 +65,7 @@ module _ (r : Range) (path : ℕ) (ws : List ℕ) where
     follows : T (is_written (export_from r path ws room last n (suc i)).verdict)
 
   abbrev rest : ℕ → ℕ → ℕ → Exported
-  rest n i m = export_from r path ws m (Ended (word ws i 4) (word ws i 5)) n (suc i)
+  rest n i m = export_from r path ws m (Some (word ws i 4, word ws i 5)) n (suc i)
 
   behind : (own : Bool) (n i room : ℕ) (last : Last) → LastTaken r last
       → T (is_written (pick own (put_line r (goes_on last (word ws i 2) (word ws i 3)) (word ws i 2) (word ws i 3) (word ws i 4) (word ws i 5) room i (rest n i)) (export_from r path ws room last n (suc i))).verdict)
@@ -74,7 +73,7 @@ module _ (r : Range) (path : ℕ) (ws : List ℕ) where
   behind false n i room last h t = record { here = λ e. absurd e; room = room; last = last; taken = h; follows = t }
   behind true n i room last h t =
       let k = line_taken r (goes_on last (word ws i 2) (word ws i 3)) (word ws i 2) (word ws i 3) (word ws i 4) (word ws i 5) room i (rest n i) (goes_on_taken r last (word ws i 2) (word ws i 3) h) t in
-      record { here = λ e. (k.2, k.3); room = k.0; last = Ended (word ws i 4) (word ws i 5); taken = k.3; follows = k.1 }
+      record { here = λ e. (k.2, k.3); room = k.0; last = Some (word ws i 4, word ws i 5); taken = k.3; follows = k.1 }
 
   from_taken : (n i room : ℕ) (last : Last) → LastTaken r last → T (is_written (export_from r path ws room last n i).verdict) → (j : ℕ) → i ≤ j → j < i + n → T (eqb (path_of ws j) path) → Both j
   unfolding export_from
@@ -90,7 +89,7 @@ module _ (r : Range) (path : ℕ) (ws : List ℕ) where
   pub all_taken : (room : ℕ) → T (is_written (export_of r path room ws).verdict) → (j : ℕ) → j < count ws → T (eqb (path_of ws j) path) → Both j
   unfolding export_of
   all_taken room t j l own =
-      let body = export_from r path ws (room - 3) Nowhere (count ws) 0 in
+      let body = export_from r path ws (room - 3) None (count ws) 0 in
       let P : Exported → Type 0 = λ e. T (is_written e.verdict) → T (is_written body.verdict) in
       let w = on P (ltb room 3) (exported [] (no_room 0)) (exported (73 ∷ 78 ∷ 59 ∷ body.bytes) body.verdict) (λ h w. absurd w) (λ h w. w) t in
-      from_taken (count ws) 0 (room - 3) Nowhere tt w j (omega arith) (omega (arith, l)) own
+      from_taken (count ws) 0 (room - 3) None tt w j (omega arith) (omega (arith, l)) own

@@ -2,21 +2,39 @@
 ghost use Rattle.std.specs.Prelude.{◌+◌, ◌≤◌, ◌<◌, ◌≡◌, [], ◌∷◌, length, drop, get_or};
 ghost use Rattle.std.proofs.lemmas.List.Edits.{sets};
 ghost use Rattle.hpgl.specs.Form.{range_of, Within};
-ghost use Rattle.hpgl.specs.Reading.{byte_of, value_of, kept, on_dash, on_digit, on_other, num_step, first, second, free, up_from, down_from, run, ending, told, back_of, reading_of, back_report};
+ghost use Rattle.hpgl.specs.Reading.{byte_of, value_of, kept, on_dash, on_digit, on_other, num_step, first, second, free, up_from, down_from, run, ending, told, back_of, reading_of, stopped, back_report};
 ghost use Rattle.hpgl.specs.Numbers.{Good};
 ghost use Rattle.hpgl.specs.ReadingLaws.{Numbered, Reaches, Commands, Lifts, Draws, Lettered, unread, byte_is};
 
 use crate::range::most_of;
 use crate::{Point, Report, Table};
 
-// What a reading answers, with the count of lines that stand: the whole file; or the position of the
-// first byte that is not of the form, of a number out of range, of a PD whose line has no room.
+// Why a reading ends before the file is whole, with the count of lines that stand: the position of the first byte
+// that is not of the form, of a number out of range, of a PD whose line has no room.
 #[derive(Clone, Copy)]
-pub enum ReadBack {
-    Whole(usize),
+pub enum ReadError {
     Malformed(usize, usize),
     TooFar(usize, usize),
     Full(usize, usize),
+}
+
+// The same of a part: the position of a wrong byte, or of a number out of range.
+#[derive(Clone, Copy)]
+enum Fault {
+    Wrong(usize),
+    Beyond(usize),
+}
+
+impl Fault {
+    // The same behind so many lines.
+    fn behind(self, count: usize) -> ReadError
+        ensures { Err result ≡ back_of (stopped self) count }
+    {
+        match self {
+            Fault::Wrong(p) => ReadError::Malformed(count, p),
+            Fault::Beyond(p) => ReadError::TooFar(count, p),
+        }
+    }
 }
 
 // What is read of a number: nothing, the sign, the digit 0, or a sign and a size, less 1.
@@ -29,6 +47,7 @@ enum Num {
 }
 
 // A byte of a number: it goes on, it ended before this byte, the byte is wrong, or it is out of range.
+// No Result: where a byte is wrong, and where its number began, only the reader of the whole number knows, so no `?` would serve.
 #[derive(Clone, Copy)]
 enum NumStep {
     Goes(Num),
@@ -71,9 +90,7 @@ fn on_dash(n: Num) -> NumStep
 {
     match n {
         Num::None => NumStep::Goes(Num::Dashed),
-        Num::Dashed => NumStep::Wrong,
-        Num::Naught => NumStep::Wrong,
-        Num::Some(_, _) => NumStep::Wrong,
+        _ => NumStep::Wrong,
     }
 }
 
@@ -131,140 +148,11 @@ fn num_step(ends: bool, n: Num, b: u8, table: Table) -> NumStep
     on_other(ends, n)
 }
 
-// A number, up to the byte behind it: its value and that byte's position; the position of a wrong byte.
-#[derive(Clone, Copy)]
-enum Number {
-    Whole(i32, usize),
-    Wrong(usize),
-    Beyond,
-}
-
-fn read_number(file: &[u8], start: usize, ends: u8, table: Table) -> Number
-    requires { start ≤ length file.now }
-    ensures { Numbered table file.now start ends result }
-{
-    let mut n = Num::None;
-    let mut at = start;
-    while at < file.len() {
-        let b = file[at];
-        match num_step(b == ends, n, b, table) {
-            NumStep::Goes(m) => n = m,
-            NumStep::Done(z) => return Number::Whole(z, at),
-            NumStep::Wrong => return Number::Wrong(at),
-            NumStep::Beyond => return Number::Beyond,
-        }
-        at += 1;
-    }
-    Number::Wrong(at)
-}
-
-// Two numbers, up to the byte behind them: the point and that byte's position; the position of a wrong byte, or of a
-// number out of range.
-#[derive(Clone, Copy)]
-enum Place {
-    At(Point, usize),
-    Wrong(usize),
-    Beyond(usize),
-}
-
-fn read_y(file: &[u8], x: i32, start: usize, table: Table) -> Place
-    requires { (start ≤ length file.now) × Within (range_of table) x }
-    ensures { Reaches table file.now start (λ c k p. second c k p x start Num.None) result }
-{
-    match read_number(file, start, b';', table) {
-        Number::Whole(y, at) => Place::At(Point { x, y }, at),
-        Number::Wrong(at) => Place::Wrong(at),
-        Number::Beyond => Place::Beyond(start),
-    }
-}
-
-fn read_point(file: &[u8], start: usize, table: Table) -> Place
-    requires { start ≤ length file.now }
-    ensures { Reaches table file.now start (λ c k p. first c k p start Num.None) result }
-{
-    match read_number(file, start, b',', table) {
-        Number::Whole(x, at) => read_y(file, x, at + 1, table),
-        Number::Wrong(at) => Place::Wrong(at),
-        Number::Beyond => Place::Beyond(start),
-    }
-}
-
-// A command: the pen lifted to a point, or a line, with the position behind it; the position of a wrong byte, or of a
-// number out of range.
+// A command: the pen lifted to a point, or a line, with the position behind it.
 #[derive(Clone, Copy)]
 enum Command {
     Up(Point, usize),
     Line(Point, Point, usize),
-    Wrong(usize),
-    Beyond(usize),
-}
-
-// The rest of a PU whose P is at a position.
-fn lift(file: &[u8], at: usize, table: Table) -> Command
-    requires { at + 2 ≤ length file.now }
-    ensures { Lifts table file.now at result }
-{
-    match read_point(file, at + 2, table) {
-        Place::At(t, end) => Command::Up(t, end + 1),
-        Place::Wrong(p) => Command::Wrong(p),
-        Place::Beyond(p) => Command::Beyond(p),
-    }
-}
-
-// The rest of a PD that draws from q.
-fn draw(file: &[u8], at: usize, q: Point, table: Table) -> Command
-    requires { at + 2 ≤ length file.now }
-    ensures { Draws table file.now at q result }
-{
-    match read_point(file, at + 2, table) {
-        Place::At(t, end) => Command::Line(q, t, end + 1),
-        Place::Wrong(p) => Command::Wrong(p),
-        Place::Beyond(p) => Command::Beyond(p),
-    }
-}
-
-// A PU behind another one is wrong at its U.
-fn pen_up(file: &[u8], at: usize, stand: Stand, table: Table) -> Command
-    requires { at + 2 ≤ length file.now }
-    ensures { Lettered table file.now at (up_from stand at (at + 1)) result }
-{
-    match stand {
-        Stand::Fresh => lift(file, at, table),
-        Stand::Lifted(_) => Command::Wrong(at + 1),
-        Stand::Drawn(_) => lift(file, at, table),
-    }
-}
-
-// A PD before any PU is wrong at its D.
-fn pen_down(file: &[u8], at: usize, stand: Stand, table: Table) -> Command
-    requires { at + 2 ≤ length file.now }
-    ensures { Lettered table file.now at (down_from stand at (at + 1)) result }
-{
-    match stand {
-        Stand::Fresh => Command::Wrong(at + 1),
-        Stand::Lifted(q) => draw(file, at, q, table),
-        Stand::Drawn(q) => draw(file, at, q, table),
-    }
-}
-
-fn read_command(file: &[u8], at: usize, stand: Stand, table: Table) -> Command
-    requires { at < length file.now }
-    ensures { Commands table file.now at (λ room. run (range_of table) room at (free stand) (drop at file.now)) result }
-{
-    if file[at] != b'P' {
-        return Command::Wrong(at);
-    }
-    if file.len() - at < 2 {
-        return Command::Wrong(at + 1);
-    }
-    let letter = file[at + 1];
-    if letter == b'U' {
-        return pen_up(file, at, stand, table);
-    }
-    if letter == b'D' {
-        return pen_down(file, at, stand, table);
-    }
-    Command::Wrong(at + 1)
 }
 
 // The four numbers of a line.
@@ -283,98 +171,190 @@ fn store(lines: &mut [i32], at: usize, q: Point, t: Point)
 }
 
 // At the file's end: a PU needs a PD.
-fn ended(stand: Stand, count: usize, at: usize) -> ReadBack
+fn ended(stand: Stand, count: usize, at: usize) -> Result<usize, ReadError>
     ensures { result ≡ back_of (ending at (free stand)) count }
 {
     match stand {
-        Stand::Fresh => ReadBack::Whole(count),
-        Stand::Lifted(_) => ReadBack::Malformed(count, at),
-        Stand::Drawn(_) => ReadBack::Whole(count),
+        Stand::Fresh => Ok(count),
+        Stand::Lifted(_) => Err(ReadError::Malformed(count, at)),
+        Stand::Drawn(_) => Ok(count),
     }
 }
 
-// The commands behind the first bytes.
-fn read_all(file: &[u8], start: usize, lines: &mut [i32], table: Table) -> ReadBack
-    requires { start ≤ length file.now }
-    ensures { told result lines.new ≡ unread table file.now lines.old 0 start Stand.Fresh }
-{
-    let room = lines.len() / 4;
-    let mut at = start;
-    let mut stand = Stand::Fresh;
-    let mut count: usize = 0;
-    while at < file.len() {
-        match read_command(file, at, stand, table) {
-            Command::Up(t, next) => {
-                stand = Stand::Lifted(t);
-                at = next;
+// A file, and the table whose numbers it may have.
+#[derive(Clone, Copy)]
+struct Reader<'a> {
+    file: &'a [u8],
+    table: Table,
+}
+
+impl Reader<'_> {
+    // A number, up to the byte behind it: its value and that byte's position.
+    fn read_number(self, start: usize, ends: u8) -> Result<(i32, usize), Fault>
+        requires { start ≤ length self.file.now }
+        ensures { Numbered self.entry.table self.entry.file.now start ends result }
+    {
+        let mut n = Num::None;
+        for at in start..self.file.len() {
+            let b = self.file[at];
+            match num_step(b == ends, n, b, self.table) {
+                NumStep::Goes(m) => n = m,
+                NumStep::Done(z) => return Ok((z, at)),
+                NumStep::Wrong => return Err(Fault::Wrong(at)),
+                NumStep::Beyond => return Err(Fault::Beyond(start)),
             }
-            Command::Line(q, t, next) => {
-                if count >= room {
-                    return ReadBack::Full(count, at);
-                }
-                store(lines, count * 4, q, t);
-                count += 1;
-                stand = Stand::Drawn(t);
-                at = next;
-            }
-            Command::Wrong(p) => return ReadBack::Malformed(count, p),
-            Command::Beyond(p) => return ReadBack::TooFar(count, p),
+        }
+        Err(Fault::Wrong(self.file.len()))
+    }
+
+    // Two numbers, up to the byte behind them: the point and that byte's position.
+    fn read_y(self, x: i32, start: usize) -> Result<(Point, usize), Fault>
+        requires { (start ≤ length self.file.now) × Within (range_of self.table) x }
+        ensures { Reaches self.entry.table self.entry.file.now start (λ c k p. second c k p x start Num.None) result }
+    {
+        let (y, end) = self.read_number(start, b';')?;
+        Ok((Point { x, y }, end))
+    }
+
+    fn read_point(self, start: usize) -> Result<(Point, usize), Fault>
+        requires { start ≤ length self.file.now }
+        ensures { Reaches self.entry.table self.entry.file.now start (λ c k p. first c k p start Num.None) result }
+    {
+        let (x, end) = self.read_number(start, b',')?;
+        self.read_y(x, end + 1)
+    }
+
+    // The rest of a PU whose P is at a position.
+    fn lift(self, at: usize) -> Result<Command, Fault>
+        requires { at + 2 ≤ length self.file.now }
+        ensures { Lifts self.entry.table self.entry.file.now at result }
+    {
+        let (t, end) = self.read_point(at + 2)?;
+        Ok(Command::Up(t, end + 1))
+    }
+
+    // The rest of a PD that draws from q.
+    fn draw(self, at: usize, q: Point) -> Result<Command, Fault>
+        requires { at + 2 ≤ length self.file.now }
+        ensures { Draws self.entry.table self.entry.file.now at q result }
+    {
+        let (t, end) = self.read_point(at + 2)?;
+        Ok(Command::Line(q, t, end + 1))
+    }
+
+    // A PU behind another one is wrong at its U.
+    fn pen_up(self, at: usize, stand: Stand) -> Result<Command, Fault>
+        requires { at + 2 ≤ length self.file.now }
+        ensures { Lettered self.entry.table self.entry.file.now at (up_from stand at (at + 1)) result }
+    {
+        match stand {
+            Stand::Fresh => self.lift(at),
+            Stand::Lifted(_) => Err(Fault::Wrong(at + 1)),
+            Stand::Drawn(_) => self.lift(at),
         }
     }
-    ended(stand, count, at)
+
+    // A PD before any PU is wrong at its D.
+    fn pen_down(self, at: usize, stand: Stand) -> Result<Command, Fault>
+        requires { at + 2 ≤ length self.file.now }
+        ensures { Lettered self.entry.table self.entry.file.now at (down_from stand at (at + 1)) result }
+    {
+        match stand {
+            Stand::Fresh => Err(Fault::Wrong(at + 1)),
+            Stand::Lifted(q) => self.draw(at, q),
+            Stand::Drawn(q) => self.draw(at, q),
+        }
+    }
+
+    fn read_command(self, at: usize, stand: Stand) -> Result<Command, Fault>
+        requires { at < length self.file.now }
+        ensures { Commands self.entry.table self.entry.file.now at (λ room. run (range_of self.entry.table) room at (free stand) (drop at self.entry.file.now)) result }
+    {
+        if self.file[at] != b'P' {
+            return Err(Fault::Wrong(at));
+        }
+        if self.file.len() - at < 2 {
+            return Err(Fault::Wrong(at + 1));
+        }
+        let letter = self.file[at + 1];
+        if letter == b'U' {
+            return self.pen_up(at, stand);
+        }
+        if letter == b'D' {
+            return self.pen_down(at, stand);
+        }
+        Err(Fault::Wrong(at + 1))
+    }
+
+    // The commands behind the first bytes.
+    fn read_all(self, start: usize, lines: &mut [i32]) -> Result<usize, ReadError>
+        requires { start ≤ length self.file.now }
+        ensures { told result lines.new ≡ unread self.entry.table self.entry.file.now lines.old 0 start Stand.Fresh }
+    {
+        let room = lines.len() / 4;
+        let mut at = start;
+        let mut stand = Stand::Fresh;
+        let mut count: usize = 0;
+        // No range: a command takes as many bytes as it has.
+        while at < self.file.len() {
+            let command = match self.read_command(at, stand) {
+                Ok(command) => command,
+                Err(fault) => return Err(fault.behind(count)),
+            };
+            match command {
+                Command::Up(t, next) => {
+                    stand = Stand::Lifted(t);
+                    at = next;
+                }
+                Command::Line(q, t, next) => {
+                    if count >= room {
+                        return Err(ReadError::Full(count, at));
+                    }
+                    store(lines, count * 4, q, t);
+                    count += 1;
+                    stand = Stand::Drawn(t);
+                    at = next;
+                }
+            }
+        }
+        ended(stand, count, at)
+    }
 }
 
+#[tactic(auto, unfolding(crate::specs::ReadingLaws::byte_is))]
 fn is_at(file: &[u8], at: usize, b: u8) -> bool
     ensures { result ≡ byte_is file.now at b }
 {
-    if at < file.len() {
-        return file[at] == b;
-    }
-    false
+    file.get(at).is_some_and(|x| *x == b)
 }
 
 // The lines of a file by the reader that is set to a table, four numbers each; numbers behind the last whole line are not touched.
-pub fn read(file: &[u8], lines: &mut [i32], table: Table) -> ReadBack
+pub fn read(file: &[u8], lines: &mut [i32], table: Table) -> Result<usize, ReadError>
     ensures { told result lines.new ≡ reading_of table file.now lines.old }
 {
     if !is_at(file, 0, b'I') {
-        return ReadBack::Malformed(0, 0);
+        return Err(ReadError::Malformed(0, 0));
     }
     if !is_at(file, 1, b'N') {
-        return ReadBack::Malformed(0, 1);
+        return Err(ReadError::Malformed(0, 1));
     }
     if !is_at(file, 2, b';') {
-        return ReadBack::Malformed(0, 2);
+        return Err(ReadError::Malformed(0, 2));
     }
-    read_all(file, 3, lines, table)
+    Reader { file, table }.read_all(3, lines)
 }
 
-impl ReadBack {
-    // The table of the numbers.
-    pub fn report(self) -> Report
-        ensures { result ≡ back_report self }
-    {
-        match self {
-            ReadBack::Whole(n) => Report {
-                number: 0,
-                stands: n,
-                at: 0,
-            },
-            ReadBack::Malformed(n, p) => Report {
-                number: 33,
-                stands: n,
-                at: p,
-            },
-            ReadBack::TooFar(n, p) => Report {
-                number: 32,
-                stands: n,
-                at: p,
-            },
-            ReadBack::Full(n, p) => Report {
-                number: 34,
-                stands: n,
-                at: p,
-            },
+// The table of the numbers of a reading.
+impl From<Result<usize, ReadError>> for Report {
+    ghost from_gives = { λ a t. t ≡ back_report a };
+
+    #[tactic(auto, unfolding(crate::specs::Reading::back_report))]
+    fn from(answer: Result<usize, ReadError>) -> Report {
+        match answer {
+            Ok(n) => Report::new(0, n, 0),
+            Err(ReadError::TooFar(n, p)) => Report::new(32, n, p),
+            Err(ReadError::Malformed(n, p)) => Report::new(33, n, p),
+            Err(ReadError::Full(n, p)) => Report::new(34, n, p),
         }
     }
 }

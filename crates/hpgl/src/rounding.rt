@@ -34,43 +34,41 @@ fn size_of(field: u32, digits: u32) -> u32
     nearest_of(8388608 + digits, 1 << (150 - field))
 }
 
-// A coordinate as a whole number: its sign and size, or that it is a NaN or out of the table's range.
+// A whole number by its sign and its size.
 #[derive(Clone, Copy)]
-enum Rounded {
-    Bad,
-    To(bool, u32),
+pub(crate) struct Signed {
+    pub(crate) negative: bool,
+    pub(crate) size: u32,
 }
 
-fn coordinate(word: u32, table: Table) -> Rounded
+// A point of two such numbers.
+#[derive(Clone, Copy)]
+pub(crate) struct Spot {
+    pub(crate) x: Signed,
+    pub(crate) y: Signed,
+}
+
+// A coordinate as a whole number; none where it is a NaN or out of the table's range.
+fn coordinate(word: u32, table: Table) -> Option<Signed>
     ensures { Rounds (range_of table) word result }
 {
     let field = word % 2147483648 / 8388608;
     if field > 150 {
-        return Rounded::Bad;
+        return None;
     }
     let size = size_of(field, word % 8388608);
     let negative = word >= 2147483648;
     if size > most_of(table, negative) {
-        return Rounded::Bad;
+        return None;
     }
-    Rounded::To(negative, size)
+    Some(Signed { negative, size })
 }
 
-// The point of two words: the signs and sizes of x and y, or that one of them is refused.
-#[derive(Clone, Copy)]
-pub(crate) enum Aim {
-    Bad,
-    To(bool, u32, bool, u32),
-}
-
-pub(crate) fn aim_at(x: u32, y: u32, table: Table) -> Aim
+// The point of two words; none where one of them is refused.
+pub(crate) fn aim_at(x: u32, y: u32, table: Table) -> Option<Spot>
     ensures { Aims (range_of table) x y result }
 {
-    match coordinate(x, table) {
-        Rounded::Bad => Aim::Bad,
-        Rounded::To(sx, n) => match coordinate(y, table) {
-            Rounded::Bad => Aim::Bad,
-            Rounded::To(sy, m) => Aim::To(sx, n, sy, m),
-        },
-    }
+    let x = coordinate(x, table)?;
+    let y = coordinate(y, table)?;
+    Some(Spot { x, y })
 }

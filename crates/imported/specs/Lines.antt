@@ -1,21 +1,19 @@
 -- From a text to lines: an accepted call on what was imported is watertight for every subpath that the text means. Assumes nothing.
-use Rattle.std.specs.Prelude.{ℕ, ◌+◌, ◌≤◌, ◌≡◌, false}
+use Rattle.std.specs.Prelude.{ℕ, ◌+◌, ◌≤◌, ◌≡◌, false, Ok}
 use Rattle.std.proofs.Math.Path.{refl, sym, ap, subst}
 use Rattle.std.proofs.Common.{◌∙◌}
 use mathlib.Core.List.{List, [], ◌∷◌, ◌++◌}
 use Rattle.std.proofs.lemmas.Bool.{eqb-false}
-use Rattle.pattern.specs.Commands.{Command, end, Ink, none, end_bit, behind, place_of, Outcome, outcome, number_of, written}
+use Rattle.pattern.specs.Commands.{Command, end, Ink, none, end_bit, behind, place_of, Answer, Outcome, outcome, number_of, written}
 use Rattle.pattern.specs.Meaning.{Subpath, nothing, meant, fresh_pen, fresh, next, after}
-use Rattle.pattern.specs.Encoded.{by_answer}
+use Rattle.pattern.specs.Encoded.{by_answer, zero_ok}
 use Rattle.pattern.specs.Every.{Every}
 use Rattle.pattern.specs.declared.pen.Place.{Place}
 use Rattle.pattern.specs.declared.pen.Pen.{Pen}
-use Rattle.pattern.specs.declared.pen.Answer.TheVariants.{Accepted as Drawn}
 use Rattle.svg.specs.Language.{Command as Svg}
 use Rattle.svg.specs.Meaning.{origin, drawn_from, meaning}
 use Rattle.svg.specs.Import.{Told, import_of}
 use Rattle.svg.specs.Imports.{all_after, all_kept, Imported, accepted_text}
-use Rattle.svg.specs.declared.reader.Ending.TheVariants.{Accepted as Read}
 use Rattle.watertight.specs.Fill.{Call, Accepted}
 use Rattle.watertight.specs.Fill as fills
 use Rattle.outlines.specs.Placing.{left, Finished, FreshCall, FillAt, Placed, outlines, Watertight}
@@ -34,26 +32,26 @@ opened_then pen then none tags points = refl
 opened_then pen then end_bit tags points = refl
 opened_then pen then (behind tag ws) tags points = refl
 
-end_finishes : (o : Outcome) → (next o end).number ≡ 0 → Finished (next o end)
+end_finishes : (o : Outcome) → number_of (next o end).answer ≡ 0 → Finished (next o end)
 unfolding place_of
 end_finishes o =
-    by_answer o.pen end o.tags o.points (λ o'. o'.number ≡ 0 → Finished o') (λ answer e z. absurd (eqb-false (number_of answer) 0 e z))
+    by_answer o.pen end o.tags o.points (λ o'. number_of o'.answer ≡ 0 → Finished o') (λ answer e z. absurd (eqb-false (number_of answer) 0 e z))
     (λ m n f z. opened_then o.pen (place_of o.pen.place end) _ o.tags o.points)
 
 -- behind the last command of a text nothing is open
-pub meaning_finishes : (cs : List Svg) (o : Outcome) → (after o (meaning cs)).number ≡ 0 → Finished (after o (meaning cs))
+pub meaning_finishes : (cs : List Svg) (o : Outcome) → number_of (after o (meaning cs)).answer ≡ 0 → Finished (after o (meaning cs))
 unfolding meaning after
 meaning_finishes cs o z =
     let e : after o (meaning cs) ≡ next (after o (drawn_from origin false cs)) end = after_append (drawn_from origin false cs) (end ∷ []) o in
-    subst Finished (sym e) (end_finishes (after o (drawn_from origin false cs)) (ap (λ (x : Outcome). x.number) (sym e) ∙ z))
+    subst Finished (sym e) (end_finishes (after o (drawn_from origin false cs)) (ap (λ (x : Outcome). number_of x.answer) (sym e) ∙ z))
 
 -- ---- the theorem
 
 -- what an import with a fresh pen leaves
 abbrev pub imported_by : List ℕ → List ℕ → List ℕ → Outcome
-imported_by bs tags points = let t = import_of bs fresh_pen tags points in outcome Drawn t.pen t.tags t.points
+imported_by bs tags points = let t = import_of bs fresh_pen tags points in outcome (Ok tt) t.pen t.tags t.points
 
-module _ (bs tags points : List ℕ) (read : (import_of bs fresh_pen tags points).ending ≡ Read) where
+module _ (bs tags points : List ℕ) (read : (import_of bs fresh_pen tags points).ending ≡ Ok tt) where
   its : Imported fresh_pen tags points bs
   its = accepted_text fresh_pen tags points bs read
 
@@ -64,16 +62,15 @@ module _ (bs tags points : List ℕ) (read : (import_of bs fresh_pen tags points
   ms : List Command
   ms = meaning its.commands
 
-  number_zero : (left tags points ms).number ≡ 0
+  number_zero : number_of (left tags points ms).answer ≡ 0
   unfolding ms number_of
-  number_zero = ap (λ (x : Outcome). x.number) (sym (all_after ms (fresh tags points) refl its.none_refused)) ∙ its.none_refused
+  number_zero = ap (λ (x : Outcome). number_of x.answer) (sym (all_after ms (fresh tags points) refl its.none_refused)) ∙ its.none_refused
 
   left_is : imported_by bs tags points ≡ left tags points ms
   unfolding ms number_of
   left_is =
-      let z = sym number_zero in
-      ap (λ (t : Told). outcome Drawn t.pen t.tags t.points) its.drawn
-      ∙ (λ i. record { number = z i; pen = (left tags points ms).pen; tags = (left tags points ms).tags; points = (left tags points ms).points })
+      let o = left tags points ms in
+      ap (λ (t : Told). outcome (Ok tt) t.pen t.tags t.points) its.drawn ∙ ap (λ (a : Answer). outcome a o.pen o.tags o.points) (sym (zero_ok o.answer number_zero))
 
   module _ (c : Call) (at : ℕ) (placed : Placed c at (imported_by bs tags points)) (a : Accepted c) (f : FreshCall c) (fill : FillAt c at) (in_call : at + (imported_by bs tags points).pen.tags ≤ fills.tags c) where
     -- What was imported, put under one fill style and one transform: every subpath of an accepted call is watertight.

@@ -1,6 +1,6 @@
 -- What drawing commands left passes the profile. Assumes nothing.
 use Prim.Native.Nat.{ℕ, zero, suc, ◌+◌, ◌-◌, ◌*◌, ◌/◌, ◌%◌, ◌^◌, ◌<◌, ◌≤◌}
-use Rattle.std.specs.Prelude.{◌≡◌, ◌⊎◌, Bool, ◌&&◌, cond, leb, get_or}
+use Rattle.std.specs.Prelude.{◌≡◌, ◌⊎◌, Bool, ◌&&◌, cond, leb, get_or, Ok, None, is_ok}
 use Rattle.std.proofs.Math.Path.{refl, ap, subst}
 use Rattle.std.proofs.Common.{sym, ◌∙◌, lit<}
 use Rattle.std.proofs.Math.Logic.{inl, inr}
@@ -12,7 +12,8 @@ use Rattle.std.proofs.Math.Dec.{eqb}
 use Rattle.std.proofs.Math.ListN.{length}
 use borrow.Author.Tests.{eq-eqb, ne_eqb, le-ltb, lt-leb}
 use Rattle.records.specs.Record.{once}
-use Rattle.refusals.specs.Refusals.{Read, found}
+use Rattle.refusals.specs.Refusals.{Read}
+use Rattle.refusals.specs.Laws.{found_is}
 use Rattle.scene.specs.Tags.{bit, tag_sums, plus, tag_data, byte_at, sums_below, sums_before}
 use Rattle.scene.specs.Reading.{wide, point_at, f32_point, point_words, segment_of, transform_of, flags_of}
 use Rattle.scene.specs.Fresh.{byte_of, sums_to}
@@ -28,18 +29,15 @@ use Rattle.pattern.specs.Closed.{all_closed}
 use Rattle.pattern.specs.Closed as closed
 use Rattle.pattern.specs.declared.pen.Spot.{Spot}
 use Rattle.spiral.specs.Util.{eq_of}
-use Rattle.flatten.specs.Tag.{◌>>=◌, is_path, is_stroke, shape_at}
+use Rattle.flatten.specs.Tag.{is_path, is_stroke, shape_at}
 use Rattle.flatten.specs.Found.{head_whole}
 use Rattle.flatten.specs.Call.{first_turn, start_of}
-use Rattle.flatten.specs.declared.call.Stop.TheVariants as stop
 use Rattle.flatten.specs.declared.tag.Head.{Head}
 use Rattle.profile.specs.Reads.{Given, read_head, no_segment, rest_by, read_at}
-use Rattle.profile.specs.Verdict.{profile_of}
+use Rattle.profile.specs.Verdict.{passed, profile_of}
 use Rattle.profile.specs.Rules as rules
-use Rattle.profile.specs.declared.sheet.Verdict.TheVariants.{Passed}
 use Rattle.profile.specs.Rules.{head_or, head_of, has_segment, has_end, is_even_odd, six_at, six_words, same_words, straight, aligned_to, point_of, first_of, last_of, segments, open_at, beginning, leading, facts_at, rule_at, rule_of, broken70, broken71, broken72, broken73, broken74, broken75}
 use Rattle.profile.specs.Passed.{passes, fine_is}
-use Rattle.profile.specs.declared.rules.Fault.TheVariants.{Fine}
 use Rattle.watertight.specs.Fill.{Call}
 use Rattle.watertight.specs.Fill as fills
 use Rattle.outlines.specs.Placing.{left, subpaths, Finished, tag_words, FreshCall, data_at, Lent, transform_at, style_at, FillAt}
@@ -83,7 +81,7 @@ module _ (c : Call) (f : FreshCall c) (lent : Lent c f (fills.tags c)) where
   abbrev flags_for : ℕ → Read ℕ
   flags_for ix = flags_of c.scene c.layout.style_base ix
 
-  head_found : (i w : ℕ) → i < fills.tags c → flags_for (its_tag i).monoid.style_ix ≡ found w → read_head g i ≡ found (record { tag = its_tag i; flags = w })
+  head_found : (i w : ℕ) → i < fills.tags c → flags_for (its_tag i).monoid.style_ix ≡ Ok w → read_head g i ≡ Ok (record { tag = its_tag i; flags = w })
   unfolding tag_data
   head_found i w l e =
       head_whole c.layout c.scene c.prefixes (2 ^ 32) i (record { tag = its_tag i; flags = w })
@@ -93,13 +91,13 @@ module _ (c : Call) (f : FreshCall c) (lent : Lent c f (fills.tags c)) where
         box = no_box (eqb (bit (byte_of (tag_words c) i) 0x10) 1) (sums_at (tag_words c) i).path_ix (sums_small (tag_words c) i);
       })
 
-  head_is : (i : ℕ) (h : Head) → read_head g i ≡ found h → head_at c i ≡ h
+  head_is : (i : ℕ) (h : Head) → read_head g i ≡ Ok h → head_at c i ≡ h
   unfolding head_of head_or
   head_is i h e = rw e
 
   -- ---- a tag with no segment
 
-  module _ (i w : ℕ) (l : i < fills.tags c) (e : flags_for (its_tag i).monoid.style_ix ≡ found w) where
+  module _ (i w : ℕ) (l : i < fills.tags c) (e : flags_for (its_tag i).monoid.style_ix ≡ Ok w) where
     its_head : head_at c i ≡ record { tag = its_tag i; flags = w }
     its_head = head_is i _ (head_found i w l e)
 
@@ -111,23 +109,23 @@ module _ (c : Call) (f : FreshCall c) (lent : Lent c f (fills.tags c)) where
       plain_none : has_segment (head_at c i) ≡ false
       plain_none = rw (its_byte, k)
 
-      plain_read : read_at g i ≡ found (head_at c i)
-      unfolding read_at rest_by ◌>>=◌ tag_data
-      plain_read = rw (head_found i w l e, k) (ap found (sym its_head))
+      plain_read : read_at g i ≡ Ok (head_at c i)
+      unfolding read_at rest_by tag_data
+      plain_read = rw (head_found i w l e, k) (ap Ok (sym its_head))
 
-      plain_fine : is_path (head_at c i) && is_stroke (head_at c i) ≡ false → is_path (head_at c i) && is_even_odd (head_at c i) ≡ false → has_end (head_at c i) ≡ false → rule_at g i ≡ Fine
+      plain_fine : is_path (head_at c i) && is_stroke (head_at c i) ≡ false → is_path (head_at c i) && is_even_odd (head_at c i) ≡ false → has_end (head_at c i) ≡ false → rule_at g i ≡ None
       unfolding facts_at broken70 broken71 broken72 broken73 broken74 broken75
       plain_fine a b n =
           fine_is (facts_at g i) (record { r70 = rw plain_none a; r71 = rw plain_none b; r72 = rw plain_none; r73 = rw plain_none; r74 = rw plain_none n; r75 = rw plain_none })
 
   -- ---- a segment that a command drew
 
-  rest_found : (i : ℕ) (h : Head) → no_segment h ≡ false → is_stroke h ≡ false → (transform_of c.scene c.layout.transform_base h.tag.monoid.trans_ix).found ≡ true
-      → (segment_of h.tag.tag_byte false h.tag.monoid.pathseg_offset c.scene c.layout.data_base).found ≡ true → rest_by (no_segment h) g i h ≡ found h
-  unfolding rest_by ◌>>=◌ shape_at
-  rest_found i h a b d e = rw (a, b, d, e)
+  rest_found : (i : ℕ) (h : Head) → no_segment h ≡ false → is_stroke h ≡ false → is_ok (transform_of c.scene c.layout.transform_base h.tag.monoid.trans_ix) ≡ true
+      → is_ok (segment_of h.tag.tag_byte false h.tag.monoid.pathseg_offset c.scene c.layout.data_base) ≡ true → rest_by (no_segment h) g i h ≡ Ok h
+  unfolding rest_by shape_at
+  rest_found i h a b d e = rw (a, b, (found_is _ d).1, (found_is _ e).1)
 
-  module _ (fill : FillAt c 2) (there : (transform_of c.scene c.layout.transform_base (transform_at c 2)).found ≡ true)
+  module _ (fill : FillAt c 2) (there : is_ok (transform_of c.scene c.layout.transform_base (transform_at c 2)) ≡ true)
       (i : ℕ) (l : i < fills.tags c) (p : Spot) (sg : Segment) (last : Bool) (d : Drawn c 2 i p sg last) where
     abbrev drawn_head : Head
     drawn_head = record { tag = tag_data (tag_byte sg last) (sums_to (tag_words c) i); flags = fill.flags }
@@ -137,11 +135,11 @@ module _ (c : Call) (f : FreshCall c) (lent : Lent c f (fills.tags c)) where
         let some = subst (λ (b : ℕ). eqb b 0 ≡ false) (sym d.byte) (byte_is_lem sg last).some in
         ap (tag_data (byte_of (tag_words c) i)) (sums_at_lem (tag_words c) i some) ∙ ap (λ (b : ℕ). tag_data b (sums_to (tag_words c) i)) d.byte
 
-    seg_head : read_head g i ≡ found drawn_head
+    seg_head : read_head g i ≡ Ok drawn_head
     unfolding tag_data
     seg_head =
         let style : (its_tag i).monoid.style_ix ≡ style_at c 2 = ap (λ (t : PathTagData). t.monoid.style_ix) seg_tag ∙ ap (λ (n : ℕ). (n + (2 ^ 32 - 2)) % 2 ^ 32) d.under.style in
-        head_found i fill.flags l (ap flags_for style ∙ fill.read) ∙ ap (λ (t : PathTagData). found (record { tag = t; flags = fill.flags })) seg_tag
+        head_found i fill.flags l (ap flags_for style ∙ fill.read) ∙ ap (λ (t : PathTagData). Ok (record { tag = t; flags = fill.flags })) seg_tag
 
     seg_is : head_at c i ≡ drawn_head
     seg_is = head_is i drawn_head seg_head
@@ -163,16 +161,16 @@ module _ (c : Call) (f : FreshCall c) (lent : Lent c f (fills.tags c)) where
     unfolding tag_data
     seg_end = rw seg_is (byte_is_lem sg last).end
 
-    seg_read : read_at g i ≡ found (head_at c i)
-    unfolding read_at ◌>>=◌ tag_data segment_of words_of
+    seg_read : read_at g i ≡ Ok (head_at c i)
+    unfolding read_at tag_data segment_of words_of
     seg_read =
         let none : no_segment drawn_head ≡ false = ap (λ (n : ℕ). eqb n 0) kind_is ∙ some_points sg in
         let trans : ((sums_to (tag_words c) i).trans_ix + (2 ^ 32 - 1)) % 2 ^ 32 ≡ transform_at c 2 = ap (λ (n : ℕ). (n + (2 ^ 32 - 1)) % 2 ^ 32) d.under.transform in
-        let found-there = ap (λ (n : ℕ). (transform_of c.scene c.layout.transform_base n).found) trans ∙ there in
+        let found-there = ap (λ (n : ℕ). is_ok (transform_of c.scene c.layout.transform_base n)) trans ∙ there in
         let room = inside _ (data_at c i) c.scene (words_of (p ∷ spots sg)) d.words refl (omega arith) in
-        let points : (segment_of (tag_byte sg last) false (sums_to (tag_words c) i).pathseg_offset c.scene c.layout.data_base).found ≡ true =
+        let points : is_ok (segment_of (tag_byte sg last) false (sums_to (tag_words c) i).pathseg_offset c.scene c.layout.data_base) ≡ true =
         rw (kind_is, (byte_is_lem sg last).f32, reach sg (sums_to (tag_words c) i).pathseg_offset c.scene c.layout.data_base d.few room) in
-        rw seg_head (rest_found i drawn_head none fill.no_stroke found-there points ∙ ap found (sym seg_is))
+        rw seg_head (rest_found i drawn_head none fill.no_stroke found-there points ∙ ap Ok (sym seg_is))
 
     -- ---- its points
 
@@ -217,7 +215,7 @@ module _ (c : Call) (f : FreshCall c) (lent : Lent c f (fills.tags c)) where
         ∙ ap (λ (n : ℕ). six_at c.scene (c.layout.transform_base + (n + (2 ^ 32 - 1)) % 2 ^ 32 * 6)) d.under.transform
 
     seg_fine : eqb (bit fill.flags 0x40000000) 1 ≡ false → aligned_to (six_words g i) (six_words g (leading g i)) ≡ true
-        → cond last (not (eq_of (last_of g i) (first_of g (beginning g i)))) (eqb (segments g (fills.tags c)) (segments g (suc i))) ≡ false → leb 4096 (segments g i) ≡ false → rule_at g i ≡ Fine
+        → cond last (not (eq_of (last_of g i) (first_of g (beginning g i)))) (eqb (segments g (fills.tags c)) (segments g (suc i))) ≡ false → leb 4096 (segments g i) ≡ false → rule_at g i ≡ None
     unfolding facts_at broken70 broken71 broken72 broken73 broken74 broken75 tag_data
     seg_fine odd al sh many =
         let stroke : is_stroke (head_at c i) ≡ false = ap is_stroke seg_is ∙ fill.no_stroke in
@@ -288,8 +286,8 @@ module _ (tags points : List ℕ) (cs : List Command) (e : Finished (left tags p
   begins : Begins c
   begins = sheet_begins c s.transform_tag s.style_tag
 
-  transform_there : (transform_of c.scene c.layout.transform_base (transform_at c 2)).found ≡ true
-  transform_there = ap (λ (k : ℕ). (transform_of c.scene c.layout.transform_base k).found) begins.first_transform ∙ s.there
+  transform_there : is_ok (transform_of c.scene c.layout.transform_base (transform_at c 2)) ≡ true
+  transform_there = ap (λ (k : ℕ). is_ok (transform_of c.scene c.layout.transform_base k)) begins.first_transform ∙ s.there
 
   -- which tag draws what
   record At (i : ℕ) : Type 0 where
@@ -353,7 +351,7 @@ module _ (tags points : List ℕ) (cs : List Command) (e : Finished (left tags p
   -- the flags that a tag reads
   record FlagsAt (i : ℕ) : Type 0 where
     w : ℕ
-    read : flags (its_tag c s.fresh s.lent i).monoid.style_ix ≡ found w
+    read : flags (its_tag c s.fresh s.lent i).monoid.style_ix ≡ Ok w
 
   head_flags : (i : ℕ) → i ≤ 1 → (sums_to (tag_words c) i).style_ix ≡ 0 → eqb (byte_of (tag_words c) i) 0 ≡ false → FlagsAt i
   unfolding tag_data
@@ -367,7 +365,7 @@ module _ (tags points : List ℕ) (cs : List Command) (e : Finished (left tags p
   unfolding sums_to plus tag_sums
   flags_1 = head_flags 1 (omega arith) (rw s.transform_tag) (ap (λ (b : ℕ). eqb b 0) s.style_tag)
 
-  path_flags : flags (its_tag c s.fresh s.lent (2 + n)).monoid.style_ix ≡ found s.fill.flags
+  path_flags : flags (its_tag c s.fresh s.lent (2 + n)).monoid.style_ix ≡ Ok s.fill.flags
   unfolding tag_data n
   path_flags = rw (sums_at_lem (tag_words c) (2 + n) (ap (λ (b : ℕ). eqb b 0) s.path_tag), style_stays n s.in_call) s.fill.read
 
@@ -416,8 +414,8 @@ module _ (tags points : List ℕ) (cs : List Command) (e : Finished (left tags p
   f = s.fresh
 
   record Silent (i : ℕ) : Type 0 where
-    read : read_at scene i ≡ found (head_at c i)
-    fine : rule_at scene i ≡ Fine
+    read : read_at scene i ≡ Ok (head_at c i)
+    fine : rule_at scene i ≡ None
     segment : has_segment (head_at c i) ≡ false
 
   silent : (i b : ℕ) → i < N → FlagsAt i → byte_of (tag_words c) i ≡ b → b % 4 ≡ 0 → eqb (bit b 0x10) 1 ≡ false → eqb (bit b 0x04) 1 ≡ false → Silent i
@@ -479,7 +477,7 @@ module _ (tags points : List ℕ) (cs : List Command) (e : Finished (left tags p
     within : i < N
     within = omega (arith, hi, in_call)
 
-    read_here : read_at scene i ≡ found (head_at c i)
+    read_here : read_at scene i ≡ Ok (head_at c i)
     read_here = seg_read c f s.lent s.fill transform_there i within here.p here.sg here.last here.drawn
 
     segment_here : has_segment (head_at c i) ≡ true
@@ -536,7 +534,7 @@ module _ (tags points : List ℕ) (cs : List Command) (e : Finished (left tags p
   begun_behind i h = rw h
 
   FineFrom : ℕ → ℕ → Type 0
-  FineFrom i m = (k : ℕ) → i ≤ k → k < i + m → rule_at scene k ≡ Fine
+  FineFrom i m = (k : ℕ) → i ≤ k → k < i + m → rule_at scene k ≡ None
 
   module _ (i : ℕ) (lo : 2 ≤ i) (p : Spot) (sg : Segment) (last : Bool) (d : Drawn c 2 i p sg last) (l : i < N) where
     abbrev some_here : has_segment (head_at c i) ≡ true
@@ -545,7 +543,7 @@ module _ (tags points : List ℕ) (cs : List Command) (e : Finished (left tags p
     abbrev end_here : has_end (head_at c i) ≡ last
     end_here = seg_end c f s.lent s.fill transform_there i l p sg last d
 
-    fine_here : i < 2 + n → cond last (not (eq_of (last_of scene i) (first_of scene (beginning scene i)))) (eqb (segments scene N) (segments scene (suc i))) ≡ false → rule_at scene i ≡ Fine
+    fine_here : i < 2 + n → cond last (not (eq_of (last_of scene i) (first_of scene (beginning scene i)))) (eqb (segments scene N) (segments scene (suc i))) ≡ false → rule_at scene i ≡ None
     fine_here hi h = seg_fine c f s.lent s.fill transform_there i l p sg last d s.nonzero (aligned_here i lo hi) h (few_here i lo hi)
 
   fine_walk : (from j : ℕ) (start q : Spot) (sg : Segment) (gs : List Segment) → Walk c 2 j q (sg ∷ gs) → 2 ≤ j → j + length (sg ∷ gs) ≤ 2 + n
@@ -557,7 +555,7 @@ module _ (tags points : List ℕ) (cs : List Command) (e : Finished (left tags p
       let shut : not (eq_of (last_of scene j) (first_of scene (beginning scene j))) ≡ false = rw (b, st, seg_last c f s.lent s.fill transform_there j l q sg true w, sh) in
       let one : j + 1 ≡ suc j = omega arith in
       let fine = fine_here j lo q sg true w l (omega (arith, hi)) shut in (
-        (λ k a m. let same_tag : j ≡ k = omega arith in subst (λ (i : ℕ). rule_at scene i ≡ Fine) same_tag fine),
+        (λ k a m. let same_tag : j ≡ k = omega arith in subst (λ (i : ℕ). rule_at scene i ≡ None) same_tag fine),
         rw one (open_behind j true (some_here j lo q sg true w l) (end_here j lo q sg true w l)),
       )
   fine_walk from j start q sg (h ∷ gs) w lo hi b st sh =
@@ -567,7 +565,7 @@ module _ (tags points : List ℕ) (cs : List Command) (e : Finished (left tags p
       let more-behind = more_to_come j (omega arith) (omega (arith, hi)) in
       let fine = fine_here j lo q sg false w.0 l (omega (arith, hi)) more-behind in
       let size : suc j + length (h ∷ gs) ≡ j + length (sg ∷ h ∷ gs) = omega arith in (
-        (λ k a m. elim (ℕ_discrete j k) [ yes t ↦ subst (λ (i : ℕ). rule_at scene i ≡ Fine) t fine | no ne ↦ rest.0 k (omega (arith, ne)) (omega arith) ]),
+        (λ k a m. elim (ℕ_discrete j k) [ yes t ↦ subst (λ (i : ℕ). rule_at scene i ≡ None) t fine | no ne ↦ rest.0 k (omega (arith, ne)) (omega arith) ]),
         subst (λ (i : ℕ). open_at scene i ≡ false) size rest.1,
       )
 
@@ -602,27 +600,27 @@ module _ (tags points : List ℕ) (cs : List Command) (e : Finished (left tags p
 
   -- ---- the theorem
 
-  each_tag : (i : ℕ) → i < N → (read_at scene i ≡ found (head_at c i)) × (rule_at scene i ≡ Fine)
+  each_tag : (i : ℕ) → i < N → (read_at scene i ≡ Ok (head_at c i)) × (rule_at scene i ≡ None)
   unfolding FineFrom
   each_tag i l =
       elim (dec_lt i 2) [
         | yes a ↦ elim (ℕ_discrete i 0) [
-          | yes z ↦ subst (λ (j : ℕ). (read_at scene j ≡ found (head_at c j)) × (rule_at scene j ≡ Fine)) (sym z) (silent_0.read, silent_0.fine)
-          | no nz ↦ let o : 1 ≡ i = omega (arith, a, nz) in subst (λ (j : ℕ). (read_at scene j ≡ found (head_at c j)) × (rule_at scene j ≡ Fine)) o (silent_1.read, silent_1.fine)
+          | yes z ↦ subst (λ (j : ℕ). (read_at scene j ≡ Ok (head_at c j)) × (rule_at scene j ≡ None)) (sym z) (silent_0.read, silent_0.fine)
+          | no nz ↦ let o : 1 ≡ i = omega (arith, a, nz) in subst (λ (j : ℕ). (read_at scene j ≡ Ok (head_at c j)) × (rule_at scene j ≡ None)) o (silent_1.read, silent_1.fine)
         ]
         | no lo ↦ elim (dec_lt i (2 + n)) [
           | yes hi ↦ (read_here i (omega (arith, lo)) hi, fine_drawn i (omega (arith, lo)) hi)
           | no above ↦ elim (ℕ_discrete (2 + n) i) [
-            | yes z ↦ subst (λ (j : ℕ). (read_at scene j ≡ found (head_at c j)) × (rule_at scene j ≡ Fine)) z (silent_path.read, silent_path.fine)
+            | yes z ↦ subst (λ (j : ℕ). (read_at scene j ≡ Ok (head_at c j)) × (rule_at scene j ≡ None)) z (silent_path.read, silent_path.fine)
             | no nz ↦ let r = silent_zero i (omega (arith, above, nz)) l in (r.read, r.fine)
           ]
         ]
       ]
 
-  bases_inside : (start_of c.layout (length c.scene)).stop ≡ stop.Going
+  bases_inside : (start_of c.layout (length c.scene)).stop ≡ None
   unfolding start_of first_turn
   bases_inside = rw (le-ltb _ _ s.tag_base, le-ltb _ _ s.data_base)
 
   -- what drawing commands left passes the profile in such a sheet, up to 4,096 segments
-  pub drawn_passes : profile_of scene ≡ Passed (segments scene N) (rules.subpaths scene N)
+  pub drawn_passes : profile_of scene ≡ passed (segments scene N) (rules.subpaths scene N)
   drawn_passes = passes scene (record { bases = bases_inside; read = λ i l. (each_tag i l).0; fine = λ i l. (each_tag i l).1 })

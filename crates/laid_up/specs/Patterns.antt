@@ -1,6 +1,5 @@
 -- What drawing commands left, put in a sheet with one fill style and one transform without shear. Definitions only.
-use Rattle.std.specs.Prelude.{ℕ, ◌+◌, ◌-◌, ◌^◌, ◌<◌, ◌≤◌, ◌≡◌, true, false, eqb, length}
-use Rattle.refusals.specs.Refusals.{found}
+use Rattle.std.specs.Prelude.{ℕ, ◌+◌, ◌-◌, ◌^◌, ◌<◌, ◌≤◌, ◌≡◌, true, false, eqb, length, Ok, is_ok}
 use Rattle.scene.specs.Tags.{bit}
 use Rattle.scene.specs.Reading.{flags_of, transform_of}
 use Rattle.scene.specs.Fresh.{byte_of}
@@ -28,7 +27,7 @@ pub record LayUp (c : Call) (o : Outcome) : Type 0 where
   pub nonzero : eqb (bit fill.flags 0x40000000) 1 ≡ false
   -- a word stands where the call reads flags for tags that no style precedes
   pub flags_before : ℕ
-  pub before_styles : flags_of c.scene c.layout.style_base (2 ^ 32 - 2) ≡ found flags_before
+  pub before_styles : flags_of c.scene c.layout.style_base (2 ^ 32 - 2) ≡ Ok flags_before
   -- the transform is there, and its second and third number are zero
-  pub there : (transform_of c.scene c.layout.transform_base 0).found ≡ true
+  pub there : is_ok (transform_of c.scene c.layout.transform_base 0) ≡ true
   pub no_shear : straight (six_at c.scene c.layout.transform_base) ≡ true

@@ -1,5 +1,5 @@
 -- Where segments share their points: with a fresh scan a segment starts where the one before it ended. Assumes nothing.
-use Rattle.std.specs.Prelude.{ℕ, zero, suc, ◌+◌, ◌-◌, ◌*◌, ◌/◌, ◌%◌, ◌^◌, ◌<◌, ◌≤◌, max, Bool, ◌&&◌, cond, List, eqb, ltb, leb, length}
+use Rattle.std.specs.Prelude.{ℕ, zero, suc, ◌+◌, ◌-◌, ◌*◌, ◌/◌, ◌%◌, ◌^◌, ◌<◌, ◌≤◌, max, Bool, ◌&&◌, List, eqb, ltb, leb, length, is_ok}
 use Rattle.std.proofs.Math.Path.{◌≡◌, refl, ap}
 use Rattle.std.proofs.Common.{sym, ◌∙◌, subst}
 use Rattle.std.proofs.Math.Bool.{true, false, not}
@@ -11,7 +11,7 @@ use Rattle.scene.specs.Reading.{wide, point_words, point_at, f32_point, point_co
 use Rattle.scene.specs.Fresh.{byte_of, sums_to}
 use Rattle.scene.specs.FreshLaws.{sums_at_lem, sums_at, fresh_tag}
 use Rattle.scene.specs.declared.tags.PathTagData.{PathTagData}
-use Rattle.scene.specs.declared.reading.SegmentRead.{SegmentRead}
+use Rattle.refusals.specs.Laws.{found_is, found_where}
 use Rattle.flatten.specs.Found.{HeadParts, head_parts}
 use Rattle.profile.specs.Rules.{has_segment, has_end, point_of, first_of, last_of, facts_at, broken72, broken74}
 use Rattle.profile.specs.Trail.{InReach}
@@ -66,14 +66,10 @@ unfolding sums_to plus
 small ts zero = omega arith
 small ts (suc i) = omega arith
 
-reach_few : (byte offset base : ℕ) (scene : List ℕ) → (segment_of byte false offset scene base).found ≡ true → eqb (byte % 4) 0 ≡ false → offset + byte % 4 * point_words (wide byte) < 2 ^ 32
+reach_few : (byte offset base : ℕ) (scene : List ℕ) → is_ok (segment_of byte false offset scene base) ≡ true → eqb (byte % 4) 0 ≡ false → offset + byte % 4 * point_words (wide byte) < 2 ^ 32
 unfolding segment_of reaches point_count
-reach_few byte offset base scene e s = go (byte % 4) (eqb-false (byte % 4) 0 s) (found_true _ _ _ e)
+reach_few byte offset base scene e s = go (byte % 4) (eqb-false (byte % 4) 0 s) (found_where _ _ _ _ (found_is _ e).1).0
   where
-    found_true : (b : Bool) (ps qs : List Vec2) → (let r : SegmentRead = cond b (record { found = true; points = ps }) (record { found = false; points = qs }) in r.found ≡ true) → b ≡ true
-    found_true true ps qs e = refl
-    found_true false ps qs e = let z : ◌≡◌ {A = ℕ} 0 1 = cc in absurd (omega arith)
-
     and_first : (a b : Bool) → a && b ≡ true → a ≡ true
     and_first true b e = refl
     and_first false b e = let z : ◌≡◌ {A = ℕ} 0 1 = cc in absurd (omega arith)

@@ -3,8 +3,7 @@ use Rattle.std.specs.Prelude.{ℕ, zero, suc, ◌≡◌, cond, List, [], ◌∷�
 use Rattle.flatten.specs.declared.tag.Head.{Head}
 use Rattle.profile.specs.Reads.{Given, given}
 use Rattle.profile.specs.Rules.{head_of, has_segment, has_end, ends}
-use Rattle.profile.specs.Verdict.{profile_of}
-use Rattle.profile.specs.declared.sheet.Verdict.TheVariants.{Passed}
+use Rattle.profile.specs.Verdict.{passed, profile_of}
 use Rattle.watertight.specs.Fill.{Call, tags}
 
 -- what the call is given, as the profile takes it
@@ -14,7 +13,7 @@ scene_of c = given c.layout c.scene c.prefixes
 pub record Passes (c : Call) : Type 0 where
   pub segments : ℕ
   pub subpaths : ℕ
-  pub answer : profile_of (scene_of c) ≡ Passed segments subpaths
+  pub answer : profile_of (scene_of c) ≡ passed segments subpaths
 
 abbrev pub head_at : Call → ℕ → Head
 head_at c i = head_of (scene_of c) i

@@ -2,7 +2,7 @@
 use Prim.Native.Nat.{ℕ, zero, suc, ◌+◌, ◌*◌, ◌%◌, ◌<◌, ◌≤◌}
 use Rattle.std.proofs.Math.Path.{◌≡◌, refl, sym, ap}
 use Rattle.std.proofs.Common.{◌∙◌, subst}
-use Rattle.std.specs.Prelude.{Bool, not, ◌&&◌, ◌||◌, length, Float}
+use Rattle.std.specs.Prelude.{Bool, not, ◌&&◌, ◌||◌, length, Float, Ok}
 use Rattle.std.proofs.Math.Bool.{true, false, cond}
 use mathlib.Core.List.{List, [], ◌∷◌, ◌++◌, flatten, append-nil, append_assoc}
 use native.Mathlib.Omega.{arith}
@@ -10,7 +10,6 @@ use Rattle.std.proofs.Math.Decide.{ℕ_discrete}
 use Rattle.std.proofs.Math.Dec.{eqb}
 use borrow.Author.Tests.{eqb-true, eqb-false, eq-eqb, ne_eqb}
 use Rattle.records.specs.Record.{once}
-use Rattle.refusals.specs.Refusals.{found}
 use Rattle.spiral.specs.Util.{eq_of}
 use Rattle.spiral.specs.Points.{FitsPoint, eq→same_point, apply_same, identity_same}
 use Rattle.spiral.specs.declared.util.Vec2.{Vec2}
@@ -230,10 +229,10 @@ module _ (c : Call) (f : FreshCall c) (p : Passes c) where
         let k = its_parts c p i l in
         same (fills.head_of c i) (head_at c i) (cc (h.tag, k.tag)) h.flags k.flags
       where
-        same : (h k : Head) → h.tag ≡ k.tag → flags_of c.scene c.layout.style_base h.tag.monoid.style_ix ≡ found h.flags
-            → flags_of c.scene c.layout.style_base k.tag.monoid.style_ix ≡ found k.flags → h ≡ k
+        same : (h k : Head) → h.tag ≡ k.tag → flags_of c.scene c.layout.style_base h.tag.monoid.style_ix ≡ Ok h.flags
+            → flags_of c.scene c.layout.style_base k.tag.monoid.style_ix ≡ Ok k.flags → h ≡ k
         same h k e x y =
-            let z : found h.flags ≡ found k.flags = sym x ∙ ap (λ (t : PathTagData). flags_of c.scene c.layout.style_base t.monoid.style_ix) e ∙ y in
+            let z : Ok h.flags ≡ Ok k.flags = sym x ∙ ap (λ (t : PathTagData). flags_of c.scene c.layout.style_base t.monoid.style_ix) e ∙ y in
             let w : h.flags ≡ k.flags = cc in
             λ i. record { tag = e i; flags = w i }
 

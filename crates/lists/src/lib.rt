@@ -4,7 +4,7 @@
 
 ghost use Rattle.std.specs.Prelude.{◌≡◌, ◌<◌, ◌≤◌, IfOk, length, take, replicate};
 ghost use Rattle.std.specs.Io.KnownBytes.{Consumes, IsAtEnd};
-ghost use Rattle.lists.specs.Lists.{digit_of, word_at, mixed_of, hash_of};
+ghost use Rattle.lists.specs.Lists.{digit_of, digits_at, word_at, mixed_of, hash_of};
 
 use std::io;
 use std::io::Read;
@@ -21,6 +21,7 @@ pub fn read_full<R: Read>(reader: &mut R, buf: &mut [u8]) -> io::Result<usize>
     ensures end { IfOk result (λ n. n < length buf.new → IsAtEnd (R.remaining reader.new)) }
 {
     let mut done: usize = 0;
+    // No range: a read puts as many bytes as it likes.
     while done < buf.len() {
         let n = reader.read(&mut buf[done..])?;
         if n == 0 {
@@ -39,30 +40,33 @@ fn digit(b: u8) -> u32
     if b < b'a' { low } else { (low + 9) % 16 }
 }
 
-// The word k of a line, whose words are eight hex digits with one byte behind them; 0 behind the last.
+// The number of eight digits; what stands behind them is not looked at.
+fn number(digits: &[u8]) -> u32
+    requires { 8 ≤ length digits.now }
+    ensures { result ≡ digits_at digits.now 0 8 }
+{
+    let mut w: u32 = 0;
+    for i in 0..8 {
+        w = w * 16 + digit(digits[i]);
+    }
+    w
+}
+
+// The word k of a line, whose words are eight hex digits with one byte behind them; 0 behind the last. No Option: a line is read
+// whole before its words are asked for, so each of the programs would only write `unwrap_or(0)`.
 pub fn word(line: &[u8], k: usize) -> u32
     ensures { result ≡ word_at line.now k }
 {
-    if line.len() / 9 <= k {
-        return 0;
+    match line.as_chunks::<9>().0.get(k) {
+        Some(piece) => number(piece),
+        None => 0,
     }
-    let mut w: u32 = 0;
-    let mut i: usize = 0;
-    while i < 8 {
-        w = w * 16 + digit(line[k * 9 + i]);
-        i += 1;
-    }
-    w
 }
 
 pub fn fill(words: &mut [u32], word: u32)
     ensures { words.new ≡ replicate (length words.old) word }
 {
-    let mut i: usize = 0;
-    while i < words.len() {
-        words[i] = word;
-        i += 1;
-    }
+    words.fill(word);
 }
 
 fn mixed(h: u32) -> u32
@@ -76,10 +80,8 @@ pub fn hash(words: &[u32]) -> u32
     ensures { result ≡ hash_of words.now }
 {
     let mut h: u32 = 0x811c9dc5;
-    let mut i: usize = 0;
-    while i < words.len() {
-        h = mixed(h ^ words[i]);
-        i += 1;
+    for word in words {
+        h = mixed(h ^ *word);
     }
     h
 }
@@ -88,9 +90,34 @@ fn report(rt: &impl Print, count: u64, what: &str, differ: u64) -> io::Result<()
     println!(rt; "{count} {what}, {differ} differ")
 }
 
-// The last line of a list of single calls.
-pub fn report_vectors(rt: &impl Print, count: u64, differ: u64) -> io::Result<()> {
-    report(rt, count, "vectors", differ)
+// More lines than any list has.
+const MOST: u64 = 1000000;
+
+// The calls of a list, a line to each.
+pub trait Calls {
+    // Whether the call's answer here is the one that the line tells.
+    fn is_right(&mut self, line: &[u8]) -> bool;
+}
+
+// Replays a list of single calls, with the bytes of a line lent: writes each line whose answer is another here, and last how
+// many lines there were and how many differ.
+pub fn replay_lines<C: Calls>(
+    rt: &(impl Input + Print),
+    line: &mut [u8],
+    calls: &mut C,
+) -> io::Result<()> {
+    let mut input = rt.reader();
+    let mut differ: u64 = 0;
+    for count in 0..MOST {
+        if read_full(&mut input, line)? != line.len() {
+            return report(rt, count, "vectors", differ);
+        }
+        if !calls.is_right(line) {
+            rt.write_all(line)?;
+            differ += 1;
+        }
+    }
+    report(rt, MOST, "vectors", differ)
 }
 
 // The last line of a list of whole calls.

@@ -6,7 +6,7 @@ use Rattle.std.proofs.Math.Logic.{inl, inr}
 use Rattle.std.proofs.Math.Bool.{true, false, true≢false}
 use Rattle.std.proofs.Math.Dec.{eqb}
 use borrow.Author.Tests.{eqb-true, eq-eqb, not-false}
-use Rattle.records.specs.Record.{count, path_of, starts, ends}
+use Rattle.records.specs.Record.{between, count, path_of, starts, ends}
 use Rattle.checker.specs.Verdict.{key_at}
 use Rattle.checker.specs.Laws.{counted}
 use Rattle.mender.specs.Near.{is_near}
@@ -133,20 +133,20 @@ module _ (ws : List ℕ) (p : ℕ) where
             ap (λ (t : Bool). t || false) (eq-eqb (starts ws p a b) (ends ws p a b) (g.others a b (λ h. true≢false (sym (same_words_lem a x b y h) ∙ e)) (λ h. true≢false (sym (same_words_lem a z b w h) ∙ f))))
 
     -- both points of a record of the path are allowed
-    allowed_record : (k : ℕ) → path_of ws k ≡ p → sought_at ws p (Other x y z w) k ≡ false → Allowed ws p x y z w (key_at ws k 2) (key_at ws k 3) × Allowed ws p x y z w (key_at ws k 4) (key_at ws k 5)
+    allowed_record : (k : ℕ) → path_of ws k ≡ p → sought_at ws p (Other (between x y z w)) k ≡ false → Allowed ws p x y z w (key_at ws k 2) (key_at ws k 3) × Allowed ws p x y z w (key_at ws k 4) (key_at ws k 5)
     unfolding sought_at is_sought
     allowed_record k e h =
-        let t = and_true _ _ (not-false _ (not_sought (Other x y z w) k e refl h)) in
+        let t = and_true _ _ (not-false _ (not_sought (Other (between x y z w)) k e refl h)) in
         (allowed_is (key_at ws k 2) (key_at ws k 3) t.0, allowed_is (key_at ws k 4) (key_at ws k 5) t.1)
 
     no_other : ends ws p x y ≡ starts ws p x y + 1 → starts ws p z w ≡ ends ws p z w + 1
-        → ((k : ℕ) → k < count ws → sought_at ws p (Other x y z w) k ≡ false) → Gap ws p x y z w
+        → ((k : ℕ) → k < count ws → sought_at ws p (Other (between x y z w)) k ≡ false) → Gap ws p x y z w
     no_other o u h =
         gap_by_records ws p x y z w o u (λ k l e. (allowed_record k e (h k l)).0) (λ k l e. (allowed_record k e (h k l)).1)
 
-    some_other : (k : ℕ) → sought_at ws p (Other x y z w) k ≡ true → Gap ws p x y z w → ⊥
+    some_other : (k : ℕ) → sought_at ws p (Other (between x y z w)) k ≡ true → Gap ws p x y z w → ⊥
     unfolding sought_at is_sought
-    some_other k h g = not_both _ _ (allows g (key_at ws k 2) (key_at ws k 3)) (allows g (key_at ws k 4) (key_at ws k 5)) (found_sought (Other x y z w) k refl h)
+    some_other k h g = not_both _ _ (allows g (key_at ws k 2) (key_at ws k 3)) (allows g (key_at ws k 4) (key_at ws k 5)) (found_sought (Other (between x y z w)) k refl h)
 
 -- ---- the case
 
@@ -176,14 +176,14 @@ module _ (ws : List ℕ) (t p x y z w : ℕ) (o : ends ws p x y ≡ starts ws p 
   unfolding IsCase
   unmended h = (unbalanced, λ a b c d m. h (this_one a b c d m))
 
-  pub other_unmended : (k : ℕ) → sought_at ws p (Other x y z w) k ≡ true → IsCase ws t p NotMended
+  pub other_unmended : (k : ℕ) → sought_at ws p (Other (between x y z w)) k ≡ true → IsCase ws t p NotMended
   other_unmended k h = unmended (λ m. some_other ws p x y z w k h m.gap)
 
   pub far_unmended : (is_near t x z ≡ false) ⊎ (is_near t y w ≡ false) → IsCase ws t p NotMended
   far_unmended (inl h) = unmended (λ m. true≢false (sym m.near_x ∙ h))
   far_unmended (inr h) = unmended (λ m. true≢false (sym m.near_y ∙ h))
 
-  pub none_other_mended : ((k : ℕ) → k < count ws → sought_at ws p (Other x y z w) k ≡ false) → is_near t x z ≡ true → is_near t y w ≡ true → IsCase ws t p (Mended x y z w)
+  pub none_other_mended : ((k : ℕ) → k < count ws → sought_at ws p (Other (between x y z w)) k ≡ false) → is_near t x z ≡ true → is_near t y w ≡ true → IsCase ws t p (Mended (between x y z w))
   unfolding IsCase
   none_other_mended h e f = record { gap = no_other ws p x y z w o u h; near_x = e; near_y = f }
 

@@ -4,7 +4,7 @@ use Rattle.std.proofs.Math.Path.{refl}
 use Rattle.std.proofs.Common.{ap, ◌∙◌, inl, inr, arith, ltb-true, ltb-false}
 use Rattle.std.proofs.Math.Bool.{true, false}
 use Rattle.laws.specs.Only.{Only}
-use Rattle.records.specs.Record.{count}
+use Rattle.records.specs.Record.{between, count}
 use Rattle.checker.specs.Search.{Stop}
 use Rattle.checker.specs.Verdict.{key_at}
 use Rattle.mender.specs.Near.{is_near}
@@ -18,21 +18,21 @@ use Rattle.mender.specs.declared.cases.Sought.TheVariants.{Uneven, OpenEnd, Open
 
 -- ---- only one
 
-same_points : {x y z w a b c d : ℕ} → a ≡ x → b ≡ y → c ≡ z → d ≡ w → Mended x y z w ≡ Mended a b c d
+same_points : {x y z w a b c d : ℕ} → a ≡ x → b ≡ y → c ≡ z → d ≡ w → Mended (between x y z w) ≡ Mended (between a b c d)
 same_points e f g h = rw (e, f, g, h)
 
 pub case_only : (ws : List ℕ) (t p : ℕ) → Only (IsCase ws t p)
 unfolding IsCase
 case_only ws t p Sound Sound a b = refl
-case_only ws t p Sound (Mended x y z w) a b = absurd (balanced_no_gap ws p x y z w a b.gap)
+case_only ws t p Sound (Mended g) a b = absurd (balanced_no_gap ws p g.x g.y g.z g.w a b.gap)
 case_only ws t p Sound NotMended a b = absurd (b.0 a)
-case_only ws t p (Mended x y z w) Sound a b = absurd (balanced_no_gap ws p x y z w b a.gap)
-case_only ws t p (Mended x y z w) (Mended x' y' z' w') a b =
-    let e = gap_only ws p x y z w x' y' z' w' a.gap b.gap in
+case_only ws t p (Mended g) Sound a b = absurd (balanced_no_gap ws p g.x g.y g.z g.w b a.gap)
+case_only ws t p (Mended g) (Mended h) a b =
+    let e = gap_only ws p g.x g.y g.z g.w h.x h.y h.z h.w a.gap b.gap in
     same_points e.0 e.1 e.2 e.3
-case_only ws t p (Mended x y z w) NotMended a b = absurd (b.1 x y z w a)
+case_only ws t p (Mended g) NotMended a b = absurd (b.1 g.x g.y g.z g.w a)
 case_only ws t p NotMended Sound a b = absurd (a.0 b)
-case_only ws t p NotMended (Mended x y z w) a b = absurd (a.1 x y z w b)
+case_only ws t p NotMended (Mended g) a b = absurd (a.1 g.x g.y g.z g.w b)
 case_only ws t p NotMended NotMended a b = refl
 
 -- ---- and one
@@ -67,22 +67,22 @@ pub record Judged (ws : List ℕ) (t p : ℕ) : Type 0 where
 
 module _ (ws : List ℕ) (t p : ℕ) where
   judge_near : (e s : ℕ) → sought_at ws p OpenEnd e ≡ true → sought_at ws p OpenStart s ≡ true
-      → ((k : ℕ) → k < count ws → sought_at ws p (Other (key_at ws e 4) (key_at ws e 5) (key_at ws s 2) (key_at ws s 3)) k ≡ false)
+      → ((k : ℕ) → k < count ws → sought_at ws p (Other (between (key_at ws e 4) (key_at ws e 5) (key_at ws s 2) (key_at ws s 3))) k ≡ false)
       → (a b : Bool) → is_near t (key_at ws e 4) (key_at ws s 2) ≡ a → is_near t (key_at ws e 5) (key_at ws s 3) ≡ b → Judged ws t p
   judge_near e s o u n true true f g =
-      record { case = Mended (key_at ws e 4) (key_at ws e 5) (key_at ws s 2) (key_at ws s 3); is = none_other_mended ws t p _ _ _ _ (open_end ws p e o) (open_start ws p s u) n f g }
+      record { case = Mended (between (key_at ws e 4) (key_at ws e 5) (key_at ws s 2) (key_at ws s 3)); is = none_other_mended ws t p _ _ _ _ (open_end ws p e o) (open_start ws p s u) n f g }
   judge_near e s o u n true false f g = record { case = NotMended; is = far_unmended ws t p _ _ _ _ (open_end ws p e o) (open_start ws p s u) (inr g) }
   judge_near e s o u n false b f g = record { case = NotMended; is = far_unmended ws t p _ _ _ _ (open_end ws p e o) (open_start ws p s u) (inl f) }
 
   judge_other : (e s : ℕ) → sought_at ws p OpenEnd e ≡ true → sought_at ws p OpenStart s ≡ true
-      → (k : ℕ) → Stop (sought_at ws p (Other (key_at ws e 4) (key_at ws e 5) (key_at ws s 2) (key_at ws s 3))) (count ws) k
+      → (k : ℕ) → Stop (sought_at ws p (Other (between (key_at ws e 4) (key_at ws e 5) (key_at ws s 2) (key_at ws s 3)))) (count ws) k
       → (b : Bool) → ltb k (count ws) ≡ b → Judged ws t p
   judge_other e s o u k n true l = record { case = NotMended; is = other_unmended ws t p _ _ _ _ (open_end ws p e o) (open_start ws p s u) k (n.here (ltb-true k (count ws) l)) }
   judge_other e s o u k n false l = judge_near e s o u (none_before n (ltb-false k (count ws) l)) (is_near t (key_at ws e 4) (key_at ws s 2)) (is_near t (key_at ws e 5) (key_at ws s 3)) refl refl
 
   judge_start : (e s : ℕ) → (BalancedIn ws p → ⊥) → sought_at ws p OpenEnd e ≡ true → Stop (sought_at ws p OpenStart) (count ws) s → (b : Bool) → ltb s (count ws) ≡ b → Judged ws t p
   judge_start e s h o n true l =
-      let r = search_all (sought_at ws p (Other (key_at ws e 4) (key_at ws e 5) (key_at ws s 2) (key_at ws s 3))) (count ws) in
+      let r = search_all (sought_at ws p (Other (between (key_at ws e 4) (key_at ws e 5) (key_at ws s 2) (key_at ws s 3)))) (count ws) in
       judge_other e s o (n.here (ltb-true s (count ws) l)) r.k r.stops (ltb r.k (count ws)) refl
   judge_start e s h o n false l = record { case = NotMended; is = no_gap_unmended ws t p h (no_open_start ws p (none_before n (ltb-false s (count ws) l))) }
 

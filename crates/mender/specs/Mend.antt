@@ -28,5 +28,5 @@ line_of p x y z w = record_words p 4294967295 x y z w
 -- which of the three is the case of the path p
 unfoldable pub IsCase : List ℕ → ℕ → ℕ → Case → Type 0
 IsCase ws t p Sound = BalancedIn ws p
-IsCase ws t p (Mended x y z w) = Mendable ws t p x y z w
+IsCase ws t p (Mended g) = Mendable ws t p g.x g.y g.z g.w
 IsCase ws t p NotMended = (BalancedIn ws p → ⊥) × ((x y z w : ℕ) → Mendable ws t p x y z w → ⊥)

@@ -1,13 +1,13 @@
 -- What becomes of each path, and so of the list: with no path left unmended it passes the check, and mending it again appends nothing. Assumes nothing.
 use Prim.Native.Nat.{ℕ, zero, suc, ◌%◌, ◌≤◌, ◌<◌}
-use Rattle.std.specs.Prelude.{◌≡◌, Bool, ◌&&◌, ◌||◌, length}
+use Rattle.std.specs.Prelude.{Ok, ◌≡◌, Bool, ◌&&◌, ◌||◌, length}
 use Rattle.std.proofs.Math.Path.{refl, sym, ap, subst}
 use Rattle.std.proofs.Common.{◌∙◌, inl, inr, arith}
 use Rattle.std.proofs.Math.Bool.{true, false, true≢false}
 use mathlib.Core.List.{List, [], ◌++◌, append-nil, append_assoc}
 use Rattle.std.proofs.Math.Dec.{eqb}
 use borrow.Author.Tests.{eqb-true, eqb-false}
-use Rattle.records.specs.Record.{count, path_of, starts, ends}
+use Rattle.records.specs.Record.{between, count, path_of, starts, ends}
 use Rattle.checker.specs.Verdict.{Finite, Answers}
 use Rattle.checker.specs.Laws.{counted}
 use Rattle.checker.specs.declared.Verdict.TheVariants.{Sound as Passed}
@@ -16,7 +16,6 @@ use Rattle.mender.specs.MendLaws.{mended_path, others_kept, end_found, balanced_
 use Rattle.mender.specs.LineLaws.{line_whole, line_finite}
 use Rattle.mender.specs.Report.{case_of, appended_of, seen_in, unless, appended_at, lines_to, lines_of, Lent, Mends}
 use Rattle.mender.specs.ReportLaws.{case_is, is_case_of, seen_there}
-use Rattle.mender.specs.declared.list.Outcome.TheVariants.{Done}
 use Rattle.mender.specs.declared.cases.Case.{Case}
 use Rattle.mender.specs.declared.cases.Case.TheVariants.{Sound, Mended, NotMended}
 
@@ -24,7 +23,7 @@ use Rattle.mender.specs.declared.cases.Case.TheVariants.{Sound, Mended, NotMende
 
 is_mended : Case → Bool
 is_mended Sound = false
-is_mended (Mended x y z w) = true
+is_mended (Mended g) = true
 is_mended NotMended = false
 
 -- the line of the path q stands behind the first n records' paths
@@ -105,7 +104,7 @@ module _ (ws : List ℕ) (t : ℕ) where
       by false e = refl
 
   -- a line is appended
-  mends : (n : ℕ) (out : List ℕ) (x y z w : ℕ) → SoFar ws t n out → seen_in ws (path_of ws n) n ≡ false → case_of ws t (path_of ws n) ≡ Mended x y z w → SoFar ws t (suc n) (out ++ line_of (path_of ws n) x y z w)
+  mends : (n : ℕ) (out : List ℕ) (x y z w : ℕ) → SoFar ws t n out → seen_in ws (path_of ws n) n ≡ false → case_of ws t (path_of ws n) ≡ Mended (between x y z w) → SoFar ws t (suc n) (out ++ line_of (path_of ws n) x y z w)
   unfolding mended_in seen_in IsCase StateOf is_mended
   mends n out x y z w h s c =
       let p = path_of ws n in
@@ -135,7 +134,7 @@ module _ (ws : List ℕ) (t : ℕ) where
   unfolding appended_at unless appended_of is_mended
   step n h true s c e = same n (ws ++ lines_to ws t n) h (nothing n (rw s)) (λ q. known n q s)
   step n h false s Sound e = same n (ws ++ lines_to ws t n) h (nothing n (rw (s, e))) (λ q. without n q (ap is_mended e))
-  step n h false s (Mended x y z w) e = subst (SoFar ws t (suc n)) (behind n (rw (s, e))) (mends n (ws ++ lines_to ws t n) x y z w h s e)
+  step n h false s (Mended g) e = subst (SoFar ws t (suc n)) (behind n (rw (s, e))) (mends n (ws ++ lines_to ws t n) g.x g.y g.z g.w h s e)
   step n h false s NotMended e = same n (ws ++ lines_to ws t n) h (nothing n (rw (s, e))) (λ q. without n q (ap is_mended e))
 
   so_far : (n : ℕ) → length ws % 6 ≡ 0 → Finite ws → SoFar ws t n (ws ++ lines_to ws t n)
@@ -186,9 +185,9 @@ module _ (ws : List ℕ) (t : ℕ) where
         let b = subst (IsCase ws t q) c (case_is ws t q) in
         let k : Kept ws out q = state_same ws q refl (ap (λ (d : Case). seen_in ws q (count ws) && is_mended d) c ∙ and_false (seen_in ws q (count ws))) (state q) in
         λ x y. (k x y).0 ∙ b x y ∙ sym (k x y).1
-    path_balanced q h (Mended x y z w) c =
+    path_balanced q h (Mended g) c =
         let m = subst (IsCase ws t q) c (case_is ws t q) in
-        state_same ws q refl (ap (λ (d : Case). seen_in ws q (count ws) && is_mended d) c ∙ ap (λ (b : Bool). b && true) (gap_seen q x y z w m.gap)) (state q)
+        state_same ws q refl (ap (λ (d : Case). seen_in ws q (count ws) && is_mended d) c ∙ ap (λ (b : Bool). b && true) (gap_seen q g.x g.y g.z g.w m.gap)) (state q)
     path_balanced q h NotMended c = absurd (by (seen_in ws q (count ws)) refl)
       where
         by : (b : Bool) → seen_in ws q (count ws) ≡ b → ⊥
@@ -196,7 +195,7 @@ module _ (ws : List ℕ) (t : ℕ) where
         by false s = (subst (IsCase ws t q) c (case_is ws t q)).0 (unseen_balanced q s)
 
     -- with no path left unmended the list passes the check
-    pub passes : count (ws ++ lines_of ws t) ≤ 2000 → NoneLeft → Answers (ws ++ lines_of ws t) Passed
+    pub passes : count (ws ++ lines_of ws t) ≤ 2000 → NoneLeft → Answers (ws ++ lines_of ws t) (Ok Passed)
     unfolding Answers out
     passes n h =
         let s = so_far (count ws) whole finite in (
@@ -216,7 +215,7 @@ module _ (ws : List ℕ) (t : ℕ) where
         by true e s = balanced_no_gap out q x y z w s m.gap
         by false e s =
             let g = mendable_back q x y z w s m in
-            let c : Mended x y z w ≡ case_of ws t q = is_case_of ws t q g in
+            let c : Mended (between x y z w) ≡ case_of ws t q = is_case_of ws t q g in
             true≢false (sym (ap (λ (b : Bool). b && is_mended (case_of ws t q)) (gap_seen q x y z w g.gap) ∙ ap is_mended (sym c)) ∙ e)
 
 -- ---- lists to which nothing is appended
@@ -229,7 +228,7 @@ module _ (ws : List ℕ) (t : ℕ) where
       by : (b : Bool) (c : Case) → is_mended c ≡ false → unless b (appended_of (path_of ws n) c) ≡ []
       by true c h = refl
       by false Sound h = refl
-      by false (Mended x y z w) h = absurd (true≢false h)
+      by false (Mended g) h = absurd (true≢false h)
       by false NotMended h = refl
 
   no_lines : (n : ℕ) → ((k : ℕ) → k < n → is_mended (case_of ws t (path_of ws k)) ≡ false) → lines_to ws t n ≡ []
@@ -243,7 +242,7 @@ module _ (ws : List ℕ) (t : ℕ) where
     where
       by : (c : Case) → IsCase ws t p c → is_mended c ≡ false
       by Sound m = refl
-      by (Mended x y z w) m = absurd (h x y z w m)
+      by (Mended g) m = absurd (h g.x g.y g.z g.w m)
       by NotMended m = refl
 
   -- a list whose paths are all sound stays as it is, word for word
@@ -257,6 +256,6 @@ unfolding out
 again_nothing ws t h f = no_lines (ws ++ lines_of ws t) t _ (λ k l. not_mended (ws ++ lines_of ws t) t _ (none_again ws t h f _))
 
 -- what `mend` is done with, and no path left unmended, passes the check
-pub mended_passes : (ws : List ℕ) (t : ℕ) (before after : Lent) (paths lines : ℕ) → Mends ws t before (Done paths lines) after → NoneLeft ws t → Answers (ws ++ lines_of ws t) Passed
+pub mended_passes : (ws : List ℕ) (t : ℕ) (before after : Lent) (paths lines : ℕ) → Mends ws t before (Ok (record { paths = paths; lines = lines })) after → NoneLeft ws t → Answers (ws ++ lines_of ws t) (Ok Passed)
 unfolding Mends
 mended_passes ws t before after paths lines a h = passes ws t a.0.whole a.1 a.2.few h

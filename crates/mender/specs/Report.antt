@@ -1,15 +1,16 @@
 -- The paths of a list in order of first appearance: the lines that are appended, the report, and the answer. Definitions only.
-use Rattle.std.specs.Prelude.{ℕ, zero, suc, ◌*◌, ◌≤◌, ◌≡◌, Bool, true, false, ◌||◌, List, [], ◌++◌, eqb, length}
+use Rattle.std.specs.Prelude.{Result, Ok, Err, ℕ, zero, suc, ◌*◌, ◌≤◌, ◌≡◌, Bool, true, false, ◌||◌, List, [], ◌++◌, eqb, length}
 use Rattle.std.proofs.lemmas.List.Edits.{sets}
 use Rattle.records.specs.Record.{record_words, count, path_of}
-use Rattle.checker.specs.Verdict.{Finite, Taken, Answers}
-use Rattle.checker.specs.declared.Verdict.TheVariants.{BadNumber as BadIn, TooMany as TooManyIn, Leftover as LeftoverIn}
+use Rattle.checker.specs.Verdict.{Finite, Taken, Answers, number_of}
+use Rattle.checker.specs.declared.Verdict.TheVariants.{BadNumber as BadIn}
 use Rattle.mender.specs.Mend.{line_of}
 use Rattle.mender.specs.Judge.{judge}
 use Rattle.mender.specs.declared.cases.Case.{Case}
 use Rattle.mender.specs.declared.cases.Case.TheVariants.{Sound, Mended, NotMended}
-use Rattle.mender.specs.declared.list.Outcome.{Outcome}
-use Rattle.mender.specs.declared.list.Outcome.TheVariants.{Done, TooMany, Leftover, BadNumber, NoRoom}
+use Rattle.mender.specs.declared.list.Plan.{Plan}
+use Rattle.mender.specs.declared.list.MendError.{MendError}
+use Rattle.mender.specs.declared.list.MendError.TheVariants.{NotTaken, BadNumber, NoRoom}
 use Rattle.mender.specs.declared.list.Told.{Told}
 
 -- ---- one path
@@ -21,13 +22,13 @@ case_of ws t p = (judge ws t p).case
 -- what the report says of it: the path, 0 sound, 1 mended or 2 not mended, and the points of the appended line, or zeros
 unfoldable pub said_of : ℕ → Case → List ℕ
 said_of p Sound = record_words p 0 0 0 0 0
-said_of p (Mended x y z w) = record_words p 1 x y z w
+said_of p (Mended g) = record_words p 1 g.x g.y g.z g.w
 said_of p NotMended = record_words p 2 0 0 0 0
 
 -- what is appended
 unfoldable pub appended_of : ℕ → Case → List ℕ
 appended_of p Sound = []
-appended_of p (Mended x y z w) = line_of p x y z w
+appended_of p (Mended g) = line_of p g.x g.y g.z g.w
 appended_of p NotMended = []
 
 -- ---- all paths, in order of first appearance
@@ -91,21 +92,25 @@ written_to ws t k l = lent (sets l.room 0 (lines_to ws t k)) (sets l.report 0 (r
 abbrev pub written : List ℕ → ℕ → Lent → Lent
 written ws t l = written_to ws t (count ws) l
 
+abbrev pub Outcome : Type 0
+Outcome = Result Plan MendError
+
 -- that an outcome is the answer to a list and a tolerance, and what it leaves; a refusal changes nothing
 unfoldable pub Mends : List ℕ → ℕ → Lent → Outcome → Lent → Type 0
-Mends ws t before TooMany after = Answers ws TooManyIn × (after ≡ before)
-Mends ws t before Leftover after = Answers ws LeftoverIn × (after ≡ before)
-Mends ws t before (BadNumber k) after = Answers ws (BadIn k) × (after ≡ before)
-Mends ws t before (NoRoom paths lines) after = Taken ws × Finite ws × (Fits ws t before.room before.report → ⊥) × Counted ws t paths lines × (after ≡ before)
-Mends ws t before (Done paths lines) after = Taken ws × Finite ws × Fits ws t before.room before.report × Counted ws t paths lines × (after ≡ written ws t before)
+Mends ws t before (Err (NotTaken e)) after = Answers ws (Err e) × (after ≡ before)
+Mends ws t before (Err (BadNumber k)) after = Answers ws (Ok (BadIn k)) × (after ≡ before)
+Mends ws t before (Err (NoRoom p)) after = Taken ws × Finite ws × (Fits ws t before.room before.report → ⊥) × Counted ws t p.paths p.lines × (after ≡ before)
+Mends ws t before (Ok p) after = Taken ws × Finite ws × Fits ws t before.room before.report × Counted ws t p.paths p.lines × (after ≡ written ws t before)
 
 -- the outcome in numbers: 0 or the refusal's; the paths and the lines, or the record of the bad number
 abbrev pub says : ℕ → ℕ → ℕ → Told
 says number first second = record { number = number; first = first; second = second }
 
+abbrev pub error_told : MendError → Told
+error_told (NotTaken e) = says (number_of e) 0 0
+error_told (BadNumber k) = says 52 k 0
+error_told (NoRoom p) = says 53 p.paths p.lines
+
 unfoldable pub told_of : Outcome → Told
-told_of (Done paths lines) = says 0 paths lines
-told_of TooMany = says 50 0 0
-told_of Leftover = says 51 0 0
-told_of (BadNumber k) = says 52 k 0
-told_of (NoRoom paths lines) = says 53 paths lines
+told_of (Ok p) = says 0 p.paths p.lines
+told_of (Err e) = error_told e

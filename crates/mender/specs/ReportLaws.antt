@@ -21,9 +21,10 @@ is_case_of ws t p {r} h = case_only ws t p r (case_of ws t p) h (case_is ws t p)
 
 -- ---- what has been seen
 
-pub seen_later : (ws : List ℕ) (p k : ℕ) → (path_of ws k ≡ p → ⊥) → seen_in ws p k ≡ false → seen_in ws p (k + 1) ≡ false
+pub none_seen : (ws : List ℕ) (p k : ℕ) → ((j : ℕ) → j < k → path_of ws j ≡ p → ⊥) → seen_in ws p k ≡ false
 unfolding seen_in
-seen_later ws p k h e = rw (add-one k, ne_eqb _ _ h, e)
+none_seen ws p zero h = refl
+none_seen ws p (suc k) h = rw (ne_eqb _ _ (h k (omega arith)), none_seen ws p k (λ j l. h j (omega arith)))
 
 pub seen_there : (ws : List ℕ) (p j k : ℕ) → j < k → path_of ws j ≡ p → seen_in ws p k ≡ true
 unfolding seen_in
@@ -55,13 +56,13 @@ new_at ws t k {p} {s} c e f g i =
 pub said_six : (p : ℕ) (c : Case) → length (said_of p c) ≡ 6
 unfolding said_of
 said_six p Sound = refl
-said_six p (Mended x y z w) = refl
+said_six p (Mended g) = refl
 said_six p NotMended = refl
 
 appended_short : (p : ℕ) (c : Case) → length (appended_of p c) ≤ 6
 unfolding appended_of
 appended_short p Sound = omega arith
-appended_short p (Mended x y z w) = omega arith
+appended_short p (Mended g) = omega arith
 appended_short p NotMended = omega arith
 
 unless_short : (b : Bool) (l : List ℕ) → length l ≤ 6 → length (unless b l) ≤ 6

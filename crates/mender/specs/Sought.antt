@@ -15,7 +15,7 @@ unfoldable pub is_sought : Sought → ℕ → ℕ → ℕ → ℕ → Counts →
 is_sought Uneven a b c d n = not (eqb n.starts0 n.ends0 && eqb n.starts1 n.ends1)
 is_sought OpenEnd a b c d n = eqb n.ends1 (n.starts1 + 1)
 is_sought OpenStart a b c d n = eqb n.starts0 (n.ends0 + 1)
-is_sought (Other x y z w) a b c d n = not (allowed_point n.starts0 n.ends0 a b x y z w && allowed_point n.starts1 n.ends1 c d x y z w)
+is_sought (Other g) a b c d n = not (allowed_point n.starts0 n.ends0 a b g.x g.y g.z g.w && allowed_point n.starts1 n.ends1 c d g.x g.y g.z g.w)
 
 -- record k is one of the path, and what is sought
 unfoldable pub sought_at : List ℕ → ℕ → Sought → ℕ → Bool

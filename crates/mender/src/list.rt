@@ -3,63 +3,12 @@ ghost use Rattle.std.specs.Prelude.{◌≡◌, ℕ, ◌+◌, ◌*◌, ◌<◌, �
 ghost use Rattle.std.proofs.lemmas.List.Edits.{sets};
 ghost use Rattle.records.specs.Record.{record_words, count};
 ghost use Rattle.checker.specs.Verdict.{Finite, Taken};
-ghost use Rattle.mender.specs.Report.{seen_in, said_of, appended_of, said_at, appended_at, report_of, lines_of, lent, Fits, Counted, written, Mends, told_of};
+ghost use Rattle.mender.specs.Report.{seen_in, said_of, appended_of, said_at, appended_at, report_of, lines_of, lent, Fits, Counted, written, Mends, error_told, told_of};
+ghost use Rattle.mender.specs.declared.list.MendError.TheVariants.{NotTaken};
 
 use crate::cases::{Case, case_of};
-use checker::{Verdict, check};
-use records::word_at;
-
-// Done and NoRoom name how many paths are reported and how many lines appended; BadNumber names the record, from 0.
-#[derive(Clone, Copy)]
-pub enum Outcome {
-    Done(usize, usize),
-    TooMany,
-    Leftover,
-    BadNumber(usize),
-    NoRoom(usize, usize),
-}
-
-// The outcome in numbers: 0 or the refusal's, and the two that it names.
-#[derive(Clone, Copy)]
-pub struct Told {
-    pub number: u32,
-    pub first: usize,
-    pub second: usize,
-}
-
-impl Outcome {
-    pub fn told(self) -> Told
-        ensures { result ≡ told_of self }
-    {
-        match self {
-            Outcome::Done(paths, lines) => Told {
-                number: 0,
-                first: paths,
-                second: lines,
-            },
-            Outcome::TooMany => Told {
-                number: 50,
-                first: 0,
-                second: 0,
-            },
-            Outcome::Leftover => Told {
-                number: 51,
-                first: 0,
-                second: 0,
-            },
-            Outcome::BadNumber(k) => Told {
-                number: 52,
-                first: k,
-                second: 0,
-            },
-            Outcome::NoRoom(paths, lines) => Told {
-                number: 53,
-                first: paths,
-                second: lines,
-            },
-        }
-    }
-}
+use checker::{CheckError, Verdict, check};
+use records::{Line, word_at};
 
 // How many paths are reported, and how many lines appended.
 #[derive(Clone, Copy)]
@@ -68,18 +17,75 @@ pub struct Plan {
     pub lines: usize,
 }
 
+// Why a list is not mended: the check refuses it, a record has a bad number, from 0, or there is no room for the plan.
+#[derive(Clone, Copy)]
+pub enum MendError {
+    NotTaken(CheckError),
+    BadNumber(usize),
+    NoRoom(Plan),
+}
+
+impl From<CheckError> for MendError {
+    ghost from_gives = { λ e r. r ≡ NotTaken e };
+
+    fn from(e: CheckError) -> MendError {
+        MendError::NotTaken(e)
+    }
+}
+
+// The answer in numbers: 0 or the refusal's, and the two that it names.
+#[derive(Clone, Copy)]
+pub struct Told {
+    pub number: u32,
+    pub first: usize,
+    pub second: usize,
+}
+
+impl MendError {
+    fn told(self) -> Told
+        ensures { result ≡ error_told self }
+    {
+        match self {
+            MendError::NotTaken(why) => Told {
+                number: why.number(),
+                first: 0,
+                second: 0,
+            },
+            MendError::BadNumber(k) => Told {
+                number: 52,
+                first: k,
+                second: 0,
+            },
+            MendError::NoRoom(plan) => Told {
+                number: 53,
+                first: plan.paths,
+                second: plan.lines,
+            },
+        }
+    }
+}
+
+impl From<Result<Plan, MendError>> for Told {
+    ghost from_gives = { λ a t. t ≡ told_of a };
+
+    #[tactic(auto, unfolding(crate::specs::Report::told_of))]
+    fn from(answer: Result<Plan, MendError>) -> Told {
+        match answer {
+            Ok(plan) => Told {
+                number: 0,
+                first: plan.paths,
+                second: plan.lines,
+            },
+            Err(e) => e.told(),
+        }
+    }
+}
+
 // Whether one of the first k records is of the path.
 fn seen(list: &[u32], path: u32, k: usize) -> bool
     ensures { result ≡ seen_in list.now path k }
 {
-    let mut j: usize = 0;
-    while j < k {
-        if word_at(list, j, 0) == path {
-            return true;
-        }
-        j += 1;
-    }
-    false
+    (0..k).any(|j| word_at(list, j, 0) == path)
 }
 
 fn lines_of(case: Case) -> usize
@@ -87,7 +93,7 @@ fn lines_of(case: Case) -> usize
 {
     match case {
         Case::Sound => 0,
-        Case::Mended(_, _, _, _) => 1,
+        Case::Mended(_) => 1,
         Case::NotMended => 0,
     }
 }
@@ -108,66 +114,48 @@ fn plan_at(list: &[u32], tolerance: u32, k: usize) -> Plan
 fn look(list: &[u32], tolerance: u32) -> Plan
     ensures { (Counted list.now tolerance result.paths result.lines) × (result.lines ≤ count list.now) }
 {
-    let n = list.len() / 6;
     let mut paths: usize = 0;
     let mut lines: usize = 0;
-    let mut k: usize = 0;
-    while k < n {
+    for k in 0..list.len() / 6 {
         let here = plan_at(list, tolerance, k);
         paths += here.paths;
         lines += here.lines;
-        k += 1;
     }
     Plan { paths, lines }
 }
 
-fn put(words: &mut [u32], at: usize, path: u32, tag: u32, x: u32, y: u32, z: u32, w: u32)
+fn put(words: &mut [u32], at: usize, path: u32, tag: u32, line: Line)
     requires { at + 5 < length words.old }
-    ensures { words.new ≡ sets words.old at (record_words path tag x y z w) }
+    ensures { words.new ≡ sets words.old at (record_words path tag line.x line.y line.z line.w) }
 {
     words[at] = path;
     words[at + 1] = tag;
-    words[at + 2] = x;
-    words[at + 3] = y;
-    words[at + 4] = z;
-    words[at + 5] = w;
+    words[at + 2] = line.x;
+    words[at + 3] = line.y;
+    words[at + 4] = line.z;
+    words[at + 5] = line.w;
 }
 
 // What is said of a path, behind its number.
 #[derive(Clone, Copy)]
 pub struct Entry {
     pub kind: u32,
-    pub x: u32,
-    pub y: u32,
-    pub z: u32,
-    pub w: u32,
+    pub line: Line,
 }
 
 fn said(case: Case) -> Entry
-    ensures { (p : ℕ) → record_words p result.kind result.x result.y result.z result.w ≡ said_of p case }
+    ensures { (p : ℕ) → record_words p result.kind result.line.x result.line.y result.line.z result.line.w ≡ said_of p case }
 {
+    let line = Line {
+        x: 0,
+        y: 0,
+        z: 0,
+        w: 0,
+    };
     match case {
-        Case::Sound => Entry {
-            kind: 0,
-            x: 0,
-            y: 0,
-            z: 0,
-            w: 0,
-        },
-        Case::Mended(x, y, z, w) => Entry {
-            kind: 1,
-            x,
-            y,
-            z,
-            w,
-        },
-        Case::NotMended => Entry {
-            kind: 2,
-            x: 0,
-            y: 0,
-            z: 0,
-            w: 0,
-        },
+        Case::Sound => Entry { kind: 0, line },
+        Case::Mended(gap) => Entry { kind: 1, line: gap },
+        Case::NotMended => Entry { kind: 2, line },
     }
 }
 
@@ -176,7 +164,7 @@ fn say(report: &mut [u32], at: usize, path: u32, case: Case)
     ensures { report.new ≡ sets report.old at (said_of path case) }
 {
     let s = said(case);
-    put(report, at, path, s.kind, s.x, s.y, s.z, s.w);
+    put(report, at, path, s.kind, s.line);
 }
 
 fn append(room: &mut [u32], at: usize, path: u32, case: Case)
@@ -185,12 +173,13 @@ fn append(room: &mut [u32], at: usize, path: u32, case: Case)
 {
     match case {
         Case::Sound => {}
-        Case::Mended(x, y, z, w) => put(room, at, path, 4294967295, x, y, z, w),
+        Case::Mended(gap) => put(room, at, path, 4294967295, gap),
         Case::NotMended => {}
     }
 }
 
-// Writes what is said of record k behind the paths and lines before it, and counts on.
+// The list and the tolerance are read all the way, the room and the report lent anew at each record: in one struct they would be
+// lent by it twice over. Writes what is said of record k behind the paths and lines before it, and counts on.
 fn write_at(
     list: &[u32],
     tolerance: u32,
@@ -225,17 +214,19 @@ fn write(list: &[u32], tolerance: u32, room: &mut [u32], report: &mut [u32])
     requires { (length (lines_of list.now tolerance) ≤ length room.old) × (length (report_of list.now tolerance) ≤ length report.old) }
     ensures { lent room.new report.new ≡ written list.now tolerance (lent room.old report.old) }
 {
-    let n = list.len() / 6;
     let mut done = Plan { paths: 0, lines: 0 };
-    let mut k: usize = 0;
-    while k < n {
+    for k in 0..list.len() / 6 {
         done = write_at(list, tolerance, k, done, room, report);
-        k += 1;
     }
 }
 
 // Of a list that is not refused as it stands: all is decided before a word is written.
-fn fill(list: &[u32], tolerance: u32, room: &mut [u32], report: &mut [u32]) -> Outcome
+fn fill(
+    list: &[u32],
+    tolerance: u32,
+    room: &mut [u32],
+    report: &mut [u32],
+) -> Result<Plan, MendError>
     requires { Taken list.now × Finite list.now }
     ensures { Mends list.now tolerance (lent room.old report.old) result (lent room.new report.new) }
 {
@@ -243,26 +234,30 @@ fn fill(list: &[u32], tolerance: u32, room: &mut [u32], report: &mut [u32]) -> O
     let paths = plan.paths;
     let lines = plan.lines;
     if room.len() / 6 < lines {
-        return Outcome::NoRoom(paths, lines);
+        return Err(MendError::NoRoom(plan));
     }
     if report.len() / 6 < paths {
-        return Outcome::NoRoom(paths, lines);
+        return Err(MendError::NoRoom(plan));
     }
     if 2000 < list.len() / 6 + lines {
-        return Outcome::NoRoom(paths, lines);
+        return Err(MendError::NoRoom(plan));
     }
     write(list, tolerance, room, report);
-    Outcome::Done(paths, lines)
+    Ok(plan)
 }
 
 // The list is only read. Its lines are appended in `room`, which may stand right behind it in memory.
-pub fn mend(list: &[u32], tolerance: u32, room: &mut [u32], report: &mut [u32]) -> Outcome
+pub fn mend(
+    list: &[u32],
+    tolerance: u32,
+    room: &mut [u32],
+    report: &mut [u32],
+) -> Result<Plan, MendError>
     ensures { Mends list.now tolerance (lent room.old report.old) result (lent room.new report.new) }
 {
-    match check(list) {
-        Verdict::TooMany => Outcome::TooMany,
-        Verdict::Leftover => Outcome::Leftover,
-        Verdict::BadNumber(k) => Outcome::BadNumber(k),
+    let verdict = check(list)?;
+    match verdict {
+        Verdict::BadNumber(k) => Err(MendError::BadNumber(k)),
         Verdict::Sound => fill(list, tolerance, room, report),
         Verdict::Unbalanced(_) => fill(list, tolerance, room, report),
     }

@@ -78,6 +78,7 @@ fn below(a: Scaled, b: Scaled, c: Scaled, more: u32) -> bool
     let mut v = b;
     let mut w = c;
     let mut carry = more;
+    // No range: how often they are halved lies in their digits.
     while 0 < digits_of(u, v, w) {
         carry = carried(u, v, w, carry);
         u = half(u);

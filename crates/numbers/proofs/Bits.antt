@@ -1,12 +1,12 @@
 -- What single floats and words say of NaN and of the sign. Assumes nothing.
-use Rattle.std.proofs.Common.{◌≡◌, ℕ, zero, suc, ◌+◌, ◌*◌, ◌/◌, ◌%◌, ◌<◌, ◌≤◌, Bool, true, false, cond, not, T, eqb, leb, ℤ, pos, sym, refl, ap, ◌∙◌, subst, le_of_eq, lt_of_le_of_lt, zero-lt-suc, mul-pos, one-mul, zero-add, zero-mul, mul-one, lt→ltb, T_not, le-ltb, lt-ltb}
-use lib.Ieee.{Float, nan, inf, fin, binary32, up, down, odd, units, round, of_fields, of_bits, to_bits, fits, is_nan, nan_bits, ne, neg, sum, add, sub, lt}
+use Rattle.std.proofs.Common.{◌≡◌, ℕ, zero, suc, ◌+◌, ◌*◌, Bool, true, false, not, T, ℤ, pos, sym, refl, ap, ◌∙◌, subst, le_of_eq, lt_of_le_of_lt, zero-lt-suc, mul-pos, one-mul, zero-add, zero-mul, mul-one, lt→ltb, T_not}
+use lib.Ieee.{Float, nan, inf, fin, binary32, up, down, odd, units, round, fits, is_nan, ne, neg, sum, add, sub, lt}
 use lib.Ieee.Fits.{up_pos, down_pos, neg-fits}
-use lib.Ieee.Bits.{of_bits-to_bits, nan_bits_is, nan_bits_above}
 use Rattle.laws.specs.Dyadic.{add_value}
 use Rattle.laws.specs.Own.{zero_exp, round_own}
+use Rattle.std.specs.Float.{is_sign_negative}
 use Rattle.numbers.specs.Words.{sign_of, signed, abs_of}
-use Rattle.laws.specs.Nan.{nan_is, no_nan}
+use Rattle.laws.specs.Nan.{nan_is}
 use Rattle.numbers.specs.WordsLaws.{nan_test}
 
 -- ---- a test's outcome as a fact
@@ -20,42 +20,19 @@ no p = rw p tt
 pub is_nan_lem : (x : Float) → ne x x ≡ true → x ≡ nan
 is_nan_lem x h = nan_is x (yes (sym (nan_test x) ∙ h))
 
-pub is_number : (x : Float) → ne x x ≡ false → T (not (is_nan x))
-is_number x h = no (sym (nan_test x) ∙ h)
-
--- ---- a NaN's pattern
-pub nan_word : (w : ℕ) → 0x7f80_0000 < w % 0x8000_0000 → of_bits binary32 w ≡ nan
-nan_word w h = nan_is (of_bits binary32 w) (yes (sym (nan_bits_is binary32 w) ∙ nan_bits_above binary32 w ∙ lt-ltb 0x7f80_0000 (w % 0x8000_0000) h))
-
-pub number_word : (w : ℕ) → w % 0x8000_0000 ≤ 0x7f80_0000 → T (not (nan_bits binary32 w))
-number_word w h = no (nan_bits_above binary32 w ∙ le-ltb 0x7f80_0000 (w % 0x8000_0000) h)
-
 -- ---- the sign bit
 pub nan_sign : sign_of nan ≡ false
 unfolding sign_of
 nan_sign = refl
 
-odd_sign : (d : ℕ) (s : Bool) (q k l : ℕ) → sign_of (odd d s q k l) ≡ s
-unfolding sign_of odd
-odd_sign d s zero k l = refl
-odd_sign d s (suc q) k l = refl
+pub sign_is : (x : Float) → is_sign_negative x ≡ sign_of x
+unfolding sign_of is_sign_negative
+sign_is nan = refl
+sign_is (inf s) = refl
+sign_is (fin s m e) = refl
 
-fields_sign : (s : Bool) (x t : ℕ) → T (not (is_nan (of_fields binary32 s x t))) → sign_of (of_fields binary32 s x t) ≡ s
-unfolding of_fields
-fields_sign s zero t h = odd_sign 24 s t 0 149
-fields_sign s (suc x) t h = top (eqb (suc x) 255) (eqb t 0) h
-  where
-    top : (a b : Bool) → T (not (is_nan (cond a (cond b (inf s) nan) (odd 24 s (8388608 + t) x 149)))) → sign_of (cond a (cond b (inf s) nan) (odd 24 s (8388608 + t) x 149)) ≡ s
-    top true true h = unfold sign_of in refl
-    top true false h = absurd (no_nan h)
-    top false b h = odd_sign 24 s (8388608 + t) x 149
-
-bits_sign : (n : ℕ) → T (not (is_nan (of_bits binary32 n))) → sign_of (of_bits binary32 n) ≡ leb 0x8000_0000 n
-unfolding of_bits
-bits_sign n h = fields_sign (leb 0x8000_0000 n) (n % 0x8000_0000 / 8388608) (n % 8388608) h
-
-pub sign_bit : (x : Float) → T (fits binary32 x) → T (not (is_nan x)) → leb 0x8000_0000 (to_bits binary32 x) ≡ sign_of x
-sign_bit x F h = let e = of_bits-to_bits binary32 x F in sym (bits_sign (to_bits binary32 x) (subst (λ (v : Float). T (not (is_nan v))) (sym e) h)) ∙ ap sign_of e
+pub nan_clear : (x : Float) → is_nan x ≡ true → sign_of x ≡ false
+nan_clear x h = rw (nan_is x (yes h)) nan_sign
 
 -- ---- above 0, and not
 abbrev pub zeroed : Float

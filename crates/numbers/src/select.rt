@@ -1,4 +1,6 @@
 // The smaller and the larger of two floats, and a float brought into a range.
+#![tactic(auto, unfolding(crate::specs::Select::before, crate::specs::Select::min_of, crate::specs::Select::max_of, crate::specs::Select::clamp_of))]
+
 ghost use Rattle.std.specs.Prelude.{◌≡◌};
 ghost use Rattle.numbers.specs.Select.{before, min_of, max_of, clamp_of};
 
@@ -8,38 +10,35 @@ use crate::words;
 fn first(x: f32, y: f32) -> bool
     ensures { result ≡ before x y }
 {
-    if x < y {
-        return true;
-    }
-    if x == y {
-        return words::is_negative(x);
-    }
-    false
+    x < y || x == y && words::is_negative(x)
 }
 
-// A NaN gives way to the other.
+// The smaller and the larger. A NaN gives way to the other.
+fn sorted(x: f32, y: f32) -> (f32, f32)
+    ensures lower { result.0 ≡ min_of x y }
+    ensures upper { result.1 ≡ max_of x y }
+{
+    if x.is_nan() {
+        (y, y)
+    } else if y.is_nan() {
+        (x, x)
+    } else if first(x, y) {
+        (x, y)
+    } else {
+        (y, x)
+    }
+}
+
 pub fn min(x: f32, y: f32) -> f32
     ensures { result ≡ min_of x y }
 {
-    if x != x {
-        return y;
-    }
-    if y != y {
-        return x;
-    }
-    if first(x, y) { x } else { y }
+    sorted(x, y).0
 }
 
 pub fn max(x: f32, y: f32) -> f32
     ensures { result ≡ max_of x y }
 {
-    if x != x {
-        return y;
-    }
-    if y != y {
-        return x;
-    }
-    if first(x, y) { y } else { x }
+    sorted(x, y).1
 }
 
 // A NaN is kept, and so is a zero's sign.
@@ -47,7 +46,10 @@ pub fn clamp(x: f32, lo: f32, hi: f32) -> f32
     ensures { result ≡ clamp_of x lo hi }
 {
     if x < lo {
-        return lo;
+        lo
+    } else if hi < x {
+        hi
+    } else {
+        x
     }
-    if hi < x { hi } else { x }
 }

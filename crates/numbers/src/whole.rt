@@ -1,5 +1,7 @@
 // Whole numbers: the conversions between f32 and the 32-bit integers, the floor and the ceiling.
-ghost use Rattle.std.specs.Prelude.{◌≡◌, ◌+◌, ◌≤◌, min, false, not, T, pos, neg_ℤ, if◌then◌else◌};
+#![tactic(auto, unfolding(crate::specs::Whole::floor_of, crate::specs::Whole::ceil_of, crate::specs::Whole::part_of))]
+
+ghost use Rattle.std.specs.Prelude.{◌≡◌, ◌+◌, ◌≤◌, false, not, T, pos, neg_ℤ, if◌then◌else◌};
 ghost use Rattle.std.specs.Float.{fin, binary32};
 ghost use Rattle.std.specs.Float.Ieee.{lt, to_signed, to_unsigned, of_int};
 ghost use Rattle.numbers.specs.Words.{sign_of, signed};
@@ -16,28 +18,12 @@ fn near(up: bool, a: f32) -> f32
 {
     let n = a + 8388608.0 - 8388608.0;
     if up {
-        if n < a {
-            return n + 1.0;
-        }
-        return n;
+        if n < a { n + 1.0 } else { n }
+    } else if a < n {
+        n - 1.0
+    } else {
+        n
     }
-    if a < n {
-        return n - 1.0;
-    }
-    n
-}
-
-// Rust's `x as u32`, for large x too.
-fn truncated(x: f32) -> u32
-    ensures { result ≡ to_unsigned 32 x }
-{
-    if x > -1.0 {
-        if x < 4294967296.0 {
-            return std::num::truncating_f32_to_u64(x) as u32;
-        }
-        return 0xffff_ffff;
-    }
-    0
 }
 
 // Rust's `k as f32`.
@@ -45,9 +31,10 @@ pub fn from_u32(k: u32) -> f32
     ensures { result ≡ of_int binary32 (pos k) }
 {
     if k < 16777216 {
-        return k as f32;
+        k as f32
+    } else {
+        std::num::nearest_u32_to_f32(k)
     }
-    std::num::nearest_u32_to_f32(k)
 }
 
 // A whole number of the u32, and the float nearest to it.
@@ -61,16 +48,14 @@ pub struct Part {
 pub fn whole_part(x: f32) -> Part
     ensures { result ≡ part_of x }
 {
-    if x > 0.0 {
-        if x < 8388608.0 {
-            let f = near(false, x);
-            return Part {
-                count: f as u32,
-                value: f,
-            };
-        }
+    if x > 0.0 && x < 8388608.0 {
+        let f = near(false, x);
+        return Part {
+            count: f as u32,
+            value: f,
+        };
     }
-    let k = truncated(x);
+    let k = std::num::saturating_f32_to_u32(x);
     Part {
         count: k,
         value: from_u32(k),
@@ -81,8 +66,7 @@ pub fn whole_part(x: f32) -> Part
 pub fn to_u32(x: f32) -> u32
     ensures { result ≡ to_unsigned 32 x }
 {
-    let part = whole_part(x);
-    part.count
+    whole_part(x).count
 }
 
 // a, or -a where s is true.
@@ -90,31 +74,14 @@ fn with_sign(s: bool, a: u32) -> i32
     requires { a ≤ 2147483647 }
     ensures { result ≡ (if s then neg_ℤ (pos a) else pos a) }
 {
-    let k = a as i32;
-    if s {
-        return 0 - k;
-    }
-    k
-}
-
-// a with the sign s, at most the largest i32 and at least the smallest.
-fn capped(s: bool, a: u32) -> i32
-    ensures { result ≡ (if s then neg_ℤ (pos (min a 2147483648)) else pos (min a 2147483647)) }
-{
-    if a > 2147483647 {
-        if s {
-            return -2147483648;
-        }
-        return 2147483647;
-    }
-    with_sign(s, a)
+    if s { -(a as i32) } else { a as i32 }
 }
 
 // Rust's `x as i32`.
 pub fn to_i32(x: f32) -> i32
     ensures { result ≡ to_signed 31 x }
 {
-    capped(words::is_negative(x), to_u32(words::abs(x)))
+    std::num::saturating_f32_to_i32(x)
 }
 
 // x as a whole number: away from zero, or towards it. From 2^23 on every float is whole.
@@ -123,9 +90,10 @@ fn to_whole(away: bool, x: f32) -> f32
 {
     let a = words::abs(x);
     if a < 8388608.0 {
-        return words::turned(words::is_negative(x), near(away, a));
+        words::turned(words::is_negative(x), near(away, a))
+    } else {
+        x
     }
-    x
 }
 
 pub fn floor(x: f32) -> f32
@@ -145,13 +113,7 @@ fn next(away: bool, more: bool, k: u32) -> u32
     requires { k ≤ 8388608 }
     ensures { result ≡ (if away then (if more then k + 1 else k) else k) }
 {
-    if away {
-        if more {
-            return k + 1;
-        }
-        return k;
-    }
-    k
+    if away && more { k + 1 } else { k }
 }
 
 // x as a whole number, and that as i32: at once. The whole number below the size tells the one above, so that the
@@ -192,24 +154,21 @@ fn between(s: bool, a: f32) -> [i32; 2]
     let k = f as u32;
     let m = next(true, f < a, k);
     if s {
-        return [with_sign(true, m), with_sign(true, k)];
+        [with_sign(true, m), with_sign(true, k)]
+    } else {
+        [with_sign(false, k), with_sign(false, m)]
     }
-    [with_sign(false, k), with_sign(false, m)]
 }
 
 // Rust's `x.floor() as i32` and `x.ceil() as i32`, at once. The sign is told by a test, since those of most points are alike.
 pub fn span(x: f32) -> [i32; 2]
     ensures { result ≡ span_of x }
 {
-    if 0.0 < x {
-        if x < 8388608.0 {
-            return between(false, x);
-        }
+    if 0.0 < x && x < 8388608.0 {
+        between(false, x)
+    } else if x < 0.0 && -8388608.0 < x {
+        between(true, -x)
+    } else {
+        [floor_i32(x), ceil_i32(x)]
     }
-    if x < 0.0 {
-        if -8388608.0 < x {
-            return between(true, -x);
-        }
-    }
-    [floor_i32(x), ceil_i32(x)]
 }

@@ -1,13 +1,13 @@
 -- Decoding what commands wrote gives back the segments that they mean, in order and bit for bit. Assumes nothing.
 use Prim.Native.Nat.{ℕ, zero, suc, ◌+◌, ◌%◌, ◌^◌, ◌<◌, ◌≤◌}
-use Rattle.std.specs.Prelude.{◌≡◌, Bool, ◌&&◌, cond, eqb, take}
+use Rattle.std.specs.Prelude.{◌≡◌, Bool, ◌&&◌, cond, eqb, take, Ok, is_ok}
 use Rattle.std.proofs.Math.Path.{refl, ap}
 use Rattle.std.proofs.Common.{sym, ◌∙◌, subst, length-take, length-drop, length-append, take_at, lt-ltb, le-leb}
 use Rattle.std.proofs.Math.Bool.{true, false}
 use mathlib.Core.List.{List, [], ◌∷◌, ◌++◌, append_assoc}
 use native.Mathlib.Omega.{arith}
 use Rattle.std.proofs.Math.ListN.{length, drop}
-use Rattle.refusals.specs.Refusals.{Read, found}
+use Rattle.refusals.specs.Refusals.{Read}
 use Rattle.scene.specs.Tags.{bit, tag_data}
 use Rattle.scene.specs.Tags as tags
 use Rattle.scene.specs.Reading.{wide, point_words, point_count, reaches, segment_of}
@@ -73,12 +73,12 @@ read_tag c i = tags.tag_of c.scene c.layout.tag_base c.prefixes i
 
 -- it was read, and is its byte and the sums before it
 abbrev pub Known : Call → ℕ → Type 0
-Known c i = read_tag c i ≡ found (tag_data (byte_of (tag_words c) i) (sums_to (tag_words c) i))
+Known c i = read_tag c i ≡ Ok (tag_data (byte_of (tag_words c) i) (sums_to (tag_words c) i))
 
 module _ (c : Call) (p : Spot) (g : Segment) (last : Bool) where
   by_byte : (byte offset : ℕ) → ByteIs byte (length (spots g)) last → offset + length (words_of (p ∷ spots g)) < 2 ^ 31
       → take (length (words_of (p ∷ spots g))) (drop (c.layout.data_base + offset) c.scene) ≡ words_of (p ∷ spots g)
-      → cond (wide byte && (segment_of byte false offset c.scene c.layout.data_base).found)
+      → cond (wide byte && is_ok (segment_of byte false offset c.scene c.layout.data_base))
       (piece (spots_at (byte % 4 + 1) (drop (c.layout.data_base + offset) c.scene)) (eqb (bit byte 0x04) 1) ∷ []) []
       ≡ piece (p ∷ spots g) last ∷ []
   unfolding segment_of words_of
@@ -155,7 +155,7 @@ module _ (c : Call) (at n : ℕ) (known : (i : ℕ) → i < n → eqb (byte_of (
 known_fresh : (c : Call) (f : FreshCall c) (n : ℕ) → Lent c f n → (i : ℕ) → i < n → eqb (byte_of (tag_words c) i) 0 ≡ false → Known c i
 known_fresh c f n l i h b =
     roomy_tag c.scene c.layout.tag_base c.prefixes f i (omega (arith, l.words)) (omega (arith, l.prefixes))
-    ∙ ap (λ (s : PathMonoid). found (tag_data (byte_of (tag_words c) i) s)) (sums_at_lem (tag_words c) i b)
+    ∙ ap (λ (s : PathMonoid). Ok (tag_data (byte_of (tag_words c) i) s)) (sums_at_lem (tag_words c) i b)
 
 -- what the buffers hold is what the subpaths are encoded as
 held : (W lent now : List ℕ) (n : ℕ) → Holds W lent now n → take n now ≡ W

@@ -1,5 +1,5 @@
 -- From commands to lines: each subpath that they mean is a closed run, so that an accepted call on it is watertight. Assumes nothing.
-use Rattle.std.specs.Prelude.{ℕ, suc, ◌+◌, ◌-◌, ◌*◌, ◌%◌, ◌^◌, ◌<◌, ◌≤◌, ◌≡◌, Bool, get_or, drop}
+use Rattle.std.specs.Prelude.{ℕ, suc, ◌+◌, ◌-◌, ◌*◌, ◌%◌, ◌^◌, ◌<◌, ◌≤◌, ◌≡◌, Bool, get_or, drop, Ok}
 use Rattle.std.proofs.Math.Path.{refl, ap}
 use Rattle.std.proofs.Common.{sym, ◌∙◌, subst, lit<, get_or-take, get_or-drop}
 use Rattle.std.proofs.Math.Bool.{true, false}
@@ -7,7 +7,6 @@ use mathlib.Core.List.{List, [], ◌∷◌}
 use native.Mathlib.Omega.{arith}
 use Rattle.std.proofs.Math.Dec.{eqb}
 use Rattle.std.proofs.Math.ListN.{length, take}
-use Rattle.refusals.specs.Refusals.{found}
 use Rattle.scene.specs.Tags.{bit, tag_data}
 use Rattle.scene.specs.Reading.{f32_point, point_words, point_at, flags_of}
 use Rattle.scene.specs.Fresh.{byte_of, sums_to}
@@ -53,7 +52,7 @@ module _ (c : Call) (a : Accepted c) (f : FreshCall c) (at : ℕ) (fill : FillAt
     its_flags =
         let style = ap (λ (t : PathTagData). t.monoid.style_ix) its_tag_lem in
         let there : style_at c i ≡ style_at c at = ap (λ (n : ℕ). (n + (2 ^ 32 - 2)) % 2 ^ 32) d.under.style in
-        let k : flags_of c.scene c.layout.style_base (head_of c i).tag.monoid.style_ix ≡ found fill.flags =
+        let k : flags_of c.scene c.layout.style_base (head_of c i).tag.monoid.style_ix ≡ Ok fill.flags =
         ap (flags_of c.scene c.layout.style_base) (style ∙ there) ∙ fill.read in
         cc parts.flags
 

@@ -1,6 +1,6 @@
 -- Where a caller puts what commands wrote, and what is decoded there by the scene's own definitions. Definitions only.
-use Rattle.std.specs.Prelude.{ℕ, zero, suc, ◌+◌, ◌*◌, ◌/◌, ◌%◌, ◌^◌, ◌<◌, ◌≤◌, ◌≡◌, Bool, true, false, ◌&&◌, cond, List, [], ◌∷◌, ◌++◌, eqb, length, get_or, take, drop}
-use Rattle.refusals.specs.Refusals.{Read, found, refused}
+use Rattle.std.specs.Prelude.{ℕ, zero, suc, ◌+◌, ◌*◌, ◌/◌, ◌%◌, ◌^◌, ◌<◌, ◌≤◌, ◌≡◌, Bool, true, false, ◌&&◌, cond, List, [], ◌∷◌, ◌++◌, eqb, length, get_or, take, drop, Ok, Err, is_ok}
+use Rattle.refusals.specs.Refusals.{Read}
 use Rattle.scene.specs.Tags.{bit, less, tag_of}
 use Rattle.scene.specs.Reading.{wide, segment_of, flags_of}
 use Rattle.scene.specs.Fresh.{byte_of, sums_to, Fresh}
@@ -70,7 +70,7 @@ six_words c i = take 6 (drop (c.layout.transform_base + transform_at c i * 6) c.
 -- the style that holds at a tag is a fill
 pub record FillAt (c : Call) (i : ℕ) : Type 0 where
   pub flags : ℕ
-  pub read : flags_of c.scene c.layout.style_base (style_at c i) ≡ found flags
+  pub read : flags_of c.scene c.layout.style_base (style_at c i) ≡ Ok flags
   pub no_stroke : eqb (bit flags 0x80000000) 1 ≡ false
 
 -- below 2^31 point words, those before counted
@@ -99,13 +99,13 @@ spots_at (suc n) ws = record { x = get_or ws 0 0; y = get_or ws 1 0 } ∷ spots_
 
 -- a tag's segment, where its points are f32 and can be read: one point more than its type says
 unfoldable pub segment_by : Call → Read PathTagData → List Piece
-segment_by c (found t) =
+segment_by c (Ok t) =
     let byte = t.tag_byte in
     let offset = t.monoid.pathseg_offset in
-    cond (wide byte && (segment_of byte false offset c.scene c.layout.data_base).found)
+    cond (wide byte && is_ok (segment_of byte false offset c.scene c.layout.data_base))
     (piece (spots_at (byte % 4 + 1) (drop (c.layout.data_base + offset) c.scene)) (eqb (bit byte 0x04) 1) ∷ [])
     []
-segment_by c (refused why) = []
+segment_by c (Err why) = []
 
 -- the segments of n tags from tag i on
 unfoldable pub decoded : Call → ℕ → ℕ → List Piece

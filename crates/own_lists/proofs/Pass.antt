@@ -1,6 +1,6 @@
 -- The shop's own fills pass the check: the theorem. What it speaks of is defined in Fills.antt. Assumes nothing.
 use Prim.Native.Nat.{ℕ, zero, suc, ◌+◌, ◌≤◌, ◌<◌}
-use Rattle.std.specs.Prelude.{◌≡◌, ◌⊎◌, Bool, length, drop}
+use Rattle.std.specs.Prelude.{Result, Ok, ◌≡◌, ◌⊎◌, Bool, length, drop}
 use Rattle.std.proofs.Math.Path.{refl, sym, ap}
 use Rattle.std.proofs.Common.{◌∙◌, inl, inr, ⊎_elim, length-append, length-take-le}
 use mathlib.Core.List.{List, [], ◌∷◌, ◌++◌}
@@ -9,6 +9,7 @@ use Rattle.records.specs.Record.{place_of, count, is_point, tally_of}
 use Rattle.records.specs.RecordLaws.{tally_behind, tally_among}
 use Rattle.checker.specs.Verdict.{Answers, Balanced}
 use Rattle.checker.specs.Only.{check_only}
+use Rattle.checker.specs.declared.CheckError.{CheckError}
 use Rattle.checker.specs.declared.Verdict.{Verdict}
 use Rattle.checker.specs.declared.Verdict.TheVariants.{Sound}
 use Rattle.watertight.specs.Count.{one_where}
@@ -120,11 +121,11 @@ module _ (c : Call) (f : OnlyClosedFills c) where
       fills_even c f.accepted (is_point path x y) f.outlines f.closed_fills (told 2) (told 4)
 
   -- an accepted call that draws closed fills and nothing else, at most 2,000 lines, all coordinates finite: the check says yes
-  pub own_fills_pass : Answers ws Sound
+  pub own_fills_pass : Answers ws (Ok Sound)
   unfolding Answers
   own_fills_pass =
       (record { few = omega (arith, records c f.accepted, f.few); whole = omega (arith, long c f.accepted) }, record { finite = f.finite; balanced = fills_balance })
 
   -- and nothing else
-  pub own_fills_only : (v : Verdict) → Answers ws v → v ≡ Sound
-  own_fills_only v h = check_only ws v Sound h own_fills_pass
+  pub own_fills_only : (v : Result Verdict CheckError) → Answers ws v → v ≡ Ok Sound
+  own_fills_only v h = check_only ws v (Ok Sound) h own_fills_pass

@@ -10,7 +10,7 @@ use Rattle.spiral.specs.Util.{has_nan}
 use Rattle.spiral.specs.Points.{same_point→eq}
 use Rattle.scene.specs.Reading.{all_finite}
 use Rattle.pattern.specs.Every.{Every, none, more}
-use Rattle.pattern.specs.Commands.{point_of, same, words_of, floats_of, numbers, Segment, line, spots, target, Command, move, draw, end, Outcome, named}
+use Rattle.pattern.specs.Commands.{point_of, same, words_of, floats_of, numbers, Segment, line, spots, target, Command, move, draw, end, number_of, Outcome, named}
 use Rattle.pattern.specs.Meaning.{Subpath, subpath, end_of, closing, Unfinished, nothing, begun, finished_by, finished, goes_on, meant, all_spots, fresh, next, kept, accepted}
 use Rattle.pattern.specs.Encoded.{both_true, spots_more, end_more, by_answer}
 use Rattle.pattern.specs.declared.pen.Spot.{Spot}
@@ -125,15 +125,15 @@ unfolding kept
 keeps true command cs h k = more (h refl) k
 keeps false command cs h k = k
 
-named_numbers : (o : Outcome) (command : Command) → eqb (next o command).number 0 ≡ true → Numbers command
+named_numbers : (o : Outcome) (command : Command) → eqb (number_of (next o command).answer) 0 ≡ true → Numbers command
 named_numbers o command =
-    by_answer o.pen command o.tags o.points (λ o'. eqb o'.number 0 ≡ true → Numbers command)
+    by_answer o.pen command o.tags o.points (λ o'. eqb (number_of o'.answer) 0 ≡ true → Numbers command)
     (λ answer e f. let z : ◌≡◌ {A = ℕ} 0 1 = cc in absurd (omega arith)) (λ m n f e. n)
 
 all_numbers : (cs : List Command) (o : Outcome) → Every Numbers (accepted o cs)
 unfolding accepted
 all_numbers [] o = none
-all_numbers (command ∷ cs) o = keeps (eqb (next o command).number 0) command (accepted (next o command) cs) (named_numbers o command) (all_numbers cs (next o command))
+all_numbers (command ∷ cs) o = keeps (eqb (number_of (next o command).answer) 0) command (accepted (next o command) cs) (named_numbers o command) (all_numbers cs (next o command))
 
 -- so are the subpaths that they mean
 pub all_closed : (tags points : List ℕ) (cs : List Command) → Every Closed (meant nothing (accepted (fresh tags points) cs))

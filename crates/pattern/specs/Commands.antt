@@ -1,5 +1,5 @@
 -- One command: what it writes behind what the pen counts, and when it is refused. Definitions only.
-use Rattle.std.specs.Prelude.{ℕ, ◌+◌, ◌-◌, Bool, true, false, ◌&&◌, cond, List, [], ◌∷◌, ◌++◌, leb, eqb, length, get_or, set, Float}
+use Rattle.std.specs.Prelude.{ℕ, ◌+◌, ◌-◌, Bool, true, false, ◌&&◌, cond, List, [], ◌∷◌, ◌++◌, leb, eqb, length, get_or, set, Float, Result, Ok, Err}
 use Rattle.std.proofs.lemmas.List.Edits.{sets}
 use Rattle.std.specs.Float.{binary32}
 use Rattle.std.specs.Float.Ieee.{of_bits}
@@ -12,9 +12,8 @@ use Rattle.pattern.specs.declared.pen.Open.{Open}
 use Rattle.pattern.specs.declared.pen.Open.TheVariants.{Nothing, Moved, Drawing}
 use Rattle.pattern.specs.declared.pen.Place.{Place}
 use Rattle.pattern.specs.declared.pen.Pen.{Pen}
-use Rattle.pattern.specs.declared.pen.Answer.{Answer}
-use Rattle.pattern.specs.declared.pen.Answer.TheVariants.{Accepted, NoMove, NoRoom, NotFinite}
-use Rattle.pattern.specs.declared.pen.Drew.{Drew}
+use Rattle.pattern.specs.declared.pen.Fault.{Fault}
+use Rattle.pattern.specs.declared.pen.Fault.TheVariants.{NoMove, NoRoom, NotFinite}
 
 -- ---- points
 
@@ -110,41 +109,46 @@ fits pen (behind tag ws) tags points = leb (pen.tags + 1) (length tags) && leb (
 
 -- ---- answers
 
+-- accepted, or why not
+abbrev pub Answer : Type 0
+Answer = Result (Unit {0}) Fault
+
 -- no other place assigns these numbers
 unfoldable pub number_of : Answer → ℕ
-number_of Accepted = 0
-number_of NoMove = 20
-number_of NoRoom = 21
-number_of NotFinite = 22
+number_of (Ok x) = 0
+number_of (Err NoMove) = 20
+number_of (Err NoRoom) = 21
+number_of (Err NotFinite) = 22
 
--- the answer's number, the pen, and the lent buffers afterwards
+-- the answer, the pen, and the lent buffers afterwards
 pub record Outcome : Type 0 where
-  pub number : ℕ
+  pub answer : Answer
   pub pen : Pen
   pub tags : List ℕ
   pub points : List ℕ
 
 abbrev pub outcome : Answer → Pen → List ℕ → List ℕ → Outcome
-outcome answer pen tags points = record { number = number_of answer; pen = pen; tags = tags; points = points }
+outcome answer pen tags points = record { answer = answer; pen = pen; tags = tags; points = points }
 
--- what the code leaves
-abbrev pub told : Drew → List ℕ → List ℕ → Outcome
-told r tags points = outcome r.answer r.pen tags points
+-- what the code leaves: an accepted command's pen, and after a refusal the pen that it was given
+abbrev pub told : Result Pen Fault → Pen → List ℕ → List ℕ → Outcome
+told (Ok then) pen tags points = outcome (Ok tt) then tags points
+told (Err fault) pen tags points = outcome (Err fault) pen tags points
 
 abbrev pub counted : Place → ℕ → ℕ → Pen
 counted s tags points = record { place = s; tags = tags; points = points }
 
 -- written, the pen at its new place
 unfoldable pub written : Pen → Place → Ink → List ℕ → List ℕ → Outcome
-written pen then none tags points = outcome Accepted (counted then pen.tags pen.points) tags points
+written pen then none tags points = outcome (Ok tt) (counted then pen.tags pen.points) tags points
 written pen then end_bit tags points =
-    outcome Accepted (counted then pen.tags pen.points) (set tags (pen.tags - 1) (ended (get_or tags (pen.tags - 1) 0))) points
+    outcome (Ok tt) (counted then pen.tags pen.points) (set tags (pen.tags - 1) (ended (get_or tags (pen.tags - 1) 0))) points
 written pen then (behind tag ws) tags points =
-    outcome Accepted (counted then (pen.tags + 1) (pen.points + length ws)) (set tags pen.tags tag) (sets points pen.points ws)
+    outcome (Ok tt) (counted then (pen.tags + 1) (pen.points + length ws)) (set tags pen.tags tag) (sets points pen.points ws)
 
 -- 21 where there is no room
 unfoldable pub inked : Pen → Place → Ink → List ℕ → List ℕ → Outcome
-inked pen then ink tags points = cond (fits pen ink tags points) (written pen then ink tags points) (outcome NoRoom pen tags points)
+inked pen then ink tags points = cond (fits pen ink tags points) (written pen then ink tags points) (outcome (Err NoRoom) pen tags points)
 
 -- ---- one command
 
@@ -168,5 +172,5 @@ command_of pen command tags points =
     cond (may_draw pen.place.opened command)
     (cond (numbers (named command))
     (inked pen (place_of pen.place command) (ink_of pen.place command) tags points)
-    (outcome NotFinite pen tags points))
-    (outcome NoMove pen tags points)
+    (outcome (Err NotFinite) pen tags points))
+    (outcome (Err NoMove) pen tags points)

@@ -1,13 +1,12 @@
 -- A segment by its tag and its words, as the three commands that draw share it: what it leaves is what their definition says. Assumes nothing.
-use Rattle.std.specs.Prelude.{ℕ, ◌≡◌, refl, Bool, true, false, cond, List, ◌∷◌, ◌++◌}
-use Rattle.pattern.specs.Commands.{words_of, numbers, Segment, spots, target, tag_of, draw, Ink, behind, start_of, ink_of, place_of, Outcome, outcome, inked, may_draw, named, command_of}
+use Rattle.std.specs.Prelude.{ℕ, ◌≡◌, refl, Bool, true, false, cond, List, ◌∷◌, ◌++◌, Ok, Err}
+use Rattle.pattern.specs.Commands.{words_of, numbers, Segment, spots, target, tag_of, draw, Ink, behind, start_of, ink_of, place_of, Answer, Outcome, outcome, inked, may_draw, named, command_of}
 use Rattle.pattern.specs.declared.pen.Spot.{Spot}
 use Rattle.pattern.specs.declared.pen.Open.{Open}
 use Rattle.pattern.specs.declared.pen.Open.TheVariants.{Nothing, Moved, Drawing}
 use Rattle.pattern.specs.declared.pen.Place.{Place}
 use Rattle.pattern.specs.declared.pen.Pen.{Pen}
-use Rattle.pattern.specs.declared.pen.Answer.{Answer}
-use Rattle.pattern.specs.declared.pen.Answer.TheVariants.{Accepted, NoMove, NoRoom, NotFinite}
+use Rattle.pattern.specs.declared.pen.Fault.TheVariants.{NoMove, NoRoom, NotFinite}
 
 -- where the pen stands behind a segment
 abbrev pub drawn_to : Pen → Spot → Place
@@ -15,16 +14,16 @@ drawn_to pen to = record { opened = Drawing; first = pen.place.first; last = to 
 
 -- 22, then 21
 unfoldable pub verdict_of : Bool → Bool → Answer
-verdict_of false room = NotFinite
-verdict_of true false = NoRoom
-verdict_of true true = Accepted
+verdict_of false room = Err NotFinite
+verdict_of true false = Err NoRoom
+verdict_of true true = Ok tt
 
 -- written where what the command names is sound
 unfoldable pub soundly : Bool → Pen → Place → Ink → List ℕ → List ℕ → Outcome
-soundly sound pen then ink tags points = cond sound (inked pen then ink tags points) (outcome NotFinite pen tags points)
+soundly sound pen then ink tags points = cond sound (inked pen then ink tags points) (outcome (Err NotFinite) pen tags points)
 
 unfoldable pub drawn_by : Open → Pen → ℕ → List ℕ → Spot → List ℕ → List ℕ → Outcome
-drawn_by Nothing pen tag ws to tags points = outcome NoMove pen tags points
+drawn_by Nothing pen tag ws to tags points = outcome (Err NoMove) pen tags points
 drawn_by Moved pen tag ws to tags points = soundly (numbers ws) pen (drawn_to pen to) (behind tag (pen.place.first.x ∷ pen.place.first.y ∷ ws)) tags points
 drawn_by Drawing pen tag ws to tags points = soundly (numbers ws) pen (drawn_to pen to) (behind tag ws) tags points
 
@@ -36,8 +35,8 @@ drawn_is pen g tags points = go pen.place.opened
     go : (s : Open)
         → drawn_by s pen (tag_of g) (words_of (spots g)) (target g) tags points
         ≡ cond (may_draw s (draw g))
-        (cond (numbers (words_of (spots g))) (inked pen (drawn_to pen (target g)) (behind (tag_of g) (words_of (start_of s pen.place.first ++ spots g))) tags points) (outcome NotFinite pen tags points))
-        (outcome NoMove pen tags points)
+        (cond (numbers (words_of (spots g))) (inked pen (drawn_to pen (target g)) (behind (tag_of g) (words_of (start_of s pen.place.first ++ spots g))) tags points) (outcome (Err NotFinite) pen tags points))
+        (outcome (Err NoMove) pen tags points)
     go Nothing = refl
     go Moved = refl
     go Drawing = refl

@@ -1,5 +1,5 @@
 -- The buffers hold the encoding of what the accepted commands mean, whatever was refused between them. Assumes nothing.
-use Rattle.std.specs.Prelude.{ℕ, ◌+◌, ◌-◌, ◌≤◌, Bool, ◌&&◌, cond, leb, eqb, get_or, set, take, drop}
+use Rattle.std.specs.Prelude.{ℕ, ◌+◌, ◌-◌, ◌≤◌, Bool, ◌&&◌, cond, leb, eqb, get_or, set, take, drop, Ok, Err}
 use Rattle.std.proofs.Math.Path.{◌≡◌, refl, sym, ap, subst}
 use Rattle.std.proofs.Common.{◌∙◌, length-append, length-drop, take_at, drop_at, drop-drop, leb-true}
 use Rattle.std.proofs.Math.Bool.{true, false}
@@ -8,15 +8,15 @@ use native.Mathlib.Omega.{arith}
 use Rattle.std.proofs.Math.ListN.{length}
 use Rattle.std.proofs.lemmas.List.Edits.{sets, sets-eq}
 use Rattle.std.proofs.lemmas.List.{get_or_at, set_at}
-use Rattle.pattern.specs.Commands.{same, words_of, numbers, Segment, line, quad, cubic, spots, target, tag_of, Command, move, draw, end, Ink, none, end_bit, behind, finishing, start_of, ink_of, place_of, ended, fits, number_of, Outcome, outcome, written, inked, may_draw, named, command_of}
+use Rattle.pattern.specs.Commands.{same, words_of, numbers, Segment, line, quad, cubic, spots, target, tag_of, Command, move, draw, end, Ink, none, end_bit, behind, finishing, start_of, ink_of, place_of, ended, fits, Answer, number_of, Outcome, outcome, written, inked, may_draw, named, command_of}
 use Rattle.pattern.specs.Meaning.{Subpath, subpath, end_of, closing, Unfinished, nothing, begun, finished_by, finished, goes_on, meant, segment_tags, all_spots, tags_of, points_of, fresh, after, kept, accepted}
 use Rattle.pattern.specs.declared.pen.Spot.{Spot}
 use Rattle.pattern.specs.declared.pen.Open.{Open}
 use Rattle.pattern.specs.declared.pen.Open.TheVariants.{Nothing, Moved, Drawing}
 use Rattle.pattern.specs.declared.pen.Place.{Place}
 use Rattle.pattern.specs.declared.pen.Pen.{Pen}
-use Rattle.pattern.specs.declared.pen.Answer.{Answer}
-use Rattle.pattern.specs.declared.pen.Answer.TheVariants.{NoMove, NoRoom, NotFinite}
+use Rattle.pattern.specs.declared.pen.Fault.{Fault}
+use Rattle.pattern.specs.declared.pen.Fault.TheVariants.{NoMove, NoRoom, NotFinite}
 
 pub both_true : (a b : Bool) → a && b ≡ true → (a ≡ true) × (b ≡ true)
 both_true true b h = (refl, h)
@@ -143,6 +143,20 @@ holds_ended W lent now n g (k ∷ gs) h =
 
 -- ---- one command, by its answer
 
+-- 0 is accepted
+pub zero_ok : (answer : Answer) → number_of answer ≡ 0 → answer ≡ Ok tt
+unfolding number_of
+zero_ok (Ok x) e = refl
+zero_ok (Err NoMove) e = absurd (omega (arith, e))
+zero_ok (Err NoRoom) e = absurd (omega (arith, e))
+zero_ok (Err NotFinite) e = absurd (omega (arith, e))
+
+pub not_zero : (fault : Fault) → eqb (number_of (Err fault)) 0 ≡ false
+unfolding number_of
+not_zero NoMove = refl
+not_zero NoRoom = refl
+not_zero NotFinite = refl
+
 module _ (pen : Pen) (command : Command) (tags points : List ℕ) where
   abbrev its_ink : Ink
   its_ink = ink_of pen.place command
@@ -156,19 +170,19 @@ module _ (pen : Pen) (command : Command) (tags points : List ℕ) where
   by_answer P refused done = go (may_draw pen.place.opened command) refl
     where
       room : (t : Bool) → fits pen its_ink tags points ≡ t → may_draw pen.place.opened command ≡ true → numbers (named command) ≡ true
-          → P (cond t (written pen (place_of pen.place command) its_ink tags points) (outcome NoRoom pen tags points))
+          → P (cond t (written pen (place_of pen.place command) its_ink tags points) (outcome (Err NoRoom) pen tags points))
       room true e f g = done f g e
-      room false e f g = refused NoRoom refl
+      room false e f g = refused (Err NoRoom) refl
 
       sound : (t : Bool) → numbers (named command) ≡ t → may_draw pen.place.opened command ≡ true
-          → P (cond t (inked pen (place_of pen.place command) its_ink tags points) (outcome NotFinite pen tags points))
+          → P (cond t (inked pen (place_of pen.place command) its_ink tags points) (outcome (Err NotFinite) pen tags points))
       sound true e f = room (fits pen its_ink tags points) refl f e
-      sound false e f = refused NotFinite refl
+      sound false e f = refused (Err NotFinite) refl
 
       go : (t : Bool) → may_draw pen.place.opened command ≡ t
-          → P (cond t (cond (numbers (named command)) (inked pen (place_of pen.place command) its_ink tags points) (outcome NotFinite pen tags points)) (outcome NoMove pen tags points))
+          → P (cond t (cond (numbers (named command)) (inked pen (place_of pen.place command) its_ink tags points) (outcome (Err NotFinite) pen tags points)) (outcome (Err NoMove) pen tags points))
       go true e = sound (numbers (named command)) refl e
-      go false e = refused NoMove refl
+      go false e = refused (Err NoMove) refl
 
 -- ---- what stands in the buffers while a subpath is open
 
@@ -305,7 +319,7 @@ module _ (lent lent' : List ℕ) where
   place_then pen then end_bit tags points = refl
   place_then pen then (behind tag ws) tags points = refl
 
-  number_zero : (pen : Pen) (then : Place) (ink : Ink) (tags points : List ℕ) → eqb (written pen then ink tags points).number 0 ≡ true
+  number_zero : (pen : Pen) (then : Place) (ink : Ink) (tags points : List ℕ) → eqb (number_of (written pen then ink tags points).answer) 0 ≡ true
   unfolding written number_of
   number_zero pen then none tags points = refl
   number_zero pen then end_bit tags points = refl
@@ -389,7 +403,7 @@ module _ (lent lent' : List ℕ) where
 
   -- what is to be shown of the outcome of a command, where more are to come
   abbrev Shown : List Subpath → Unfinished → Command → List Command → Outcome → Type 0
-  Shown ss u command cs o = Stands (ss ++ meant u (kept (eqb o.number 0) command (accepted o cs))) (left u (kept (eqb o.number 0) command (accepted o cs))) (after o cs)
+  Shown ss u command cs o = Stands (ss ++ meant u (kept (eqb (number_of o.answer) 0) command (accepted o cs))) (left u (kept (eqb (number_of o.answer) 0) command (accepted o cs))) (after o cs)
 
   abbrev Onward : List Command → Type 0
   Onward cs = (ss : List Subpath) (u : Unfinished) (o : Outcome) → Stands ss u o → Stands (ss ++ meant u (accepted o cs)) (left u (accepted o cs)) (after o cs)
@@ -401,7 +415,7 @@ module _ (lent lent' : List ℕ) where
       rw e (on ss u (outcome answer o.pen o.tags o.points) (record { both = record { tags = h.both.tags; points = h.both.points }; place = h.place }))
 
   goes : (ss : List Subpath) (u : Unfinished) (command : Command) (cs : List Command) (o : Outcome) → Onward cs
-      → Stands (ss ++ done_by u command) (left_by u command) o → eqb o.number 0 ≡ true → Shown ss u command cs o
+      → Stands (ss ++ done_by u command) (left_by u command) o → eqb (number_of o.answer) 0 ≡ true → Shown ss u command cs o
   unfolding kept left
   goes ss u command cs o on h e =
       rw e

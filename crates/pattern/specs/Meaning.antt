@@ -1,10 +1,9 @@
 -- What commands mean, the subpaths that they finish, and how subpaths are encoded as tag bytes and point words. Definitions only.
-use Rattle.std.specs.Prelude.{ℕ, ◌+◌, Bool, true, false, cond, List, [], ◌∷◌, ◌++◌, eqb}
-use Rattle.pattern.specs.Commands.{same, words_of, Segment, line, spots, target, tag_of, Command, move, draw, end, Outcome, outcome, command_of}
+use Rattle.std.specs.Prelude.{ℕ, ◌+◌, Bool, true, false, cond, List, [], ◌∷◌, ◌++◌, eqb, Ok}
+use Rattle.pattern.specs.Commands.{same, words_of, Segment, line, spots, target, tag_of, Command, move, draw, end, number_of, Outcome, outcome, command_of}
 use Rattle.pattern.specs.declared.pen.Spot.{Spot}
 use Rattle.pattern.specs.declared.pen.Open.TheVariants.{Nothing}
 use Rattle.pattern.specs.declared.pen.Pen.{Pen}
-use Rattle.pattern.specs.declared.pen.Answer.TheVariants.{Accepted}
 
 -- ---- subpaths
 
@@ -82,7 +81,7 @@ fresh_pen =
     record { place = record { opened = Nothing; first = record { x = 0; y = 0 }; last = record { x = 0; y = 0 } }; tags = 0; points = 0 }
 
 abbrev pub fresh : List ℕ → List ℕ → Outcome
-fresh tags points = outcome Accepted fresh_pen tags points
+fresh tags points = outcome (Ok tt) fresh_pen tags points
 
 abbrev pub next : Outcome → Command → Outcome
 next o command = command_of o.pen command o.tags o.points
@@ -98,4 +97,4 @@ kept false command cs = cs
 
 unfoldable pub accepted : Outcome → List Command → List Command
 accepted o [] = []
-accepted o (command ∷ cs) = kept (eqb (next o command).number 0) command (accepted (next o command) cs)
+accepted o (command ∷ cs) = kept (eqb (number_of (next o command).answer) 0) command (accepted (next o command) cs)

@@ -1,5 +1,5 @@
-// The pen, which goes into each command and comes back with its answer.
-ghost use Rattle.std.specs.Prelude.{◌≡◌};
+// The pen, which goes into each command; one that is accepted gives it back moved on.
+ghost use Rattle.std.specs.Prelude.{◌≡◌, Err};
 ghost use Rattle.pattern.specs.Commands.{number_of};
 
 // A point: the words of its x and its y, each an f32.
@@ -35,9 +35,9 @@ pub struct Pen {
     pub points: u64,
 }
 
-#[derive(Clone, Copy)]
-pub enum Answer {
-    Accepted,
+// Why a command is refused.
+#[derive(Clone, Copy, Debug, PartialEq, Eq)]
+pub enum Fault {
     // A line, quad or cubic with no move since the start or the last end.
     NoMove,
     // No room for the tag and the points that this command itself writes.
@@ -46,23 +46,16 @@ pub enum Answer {
     NotFinite,
 }
 
-// A refused command gives the pen back as it was.
-#[derive(Clone, Copy)]
-pub struct Drew {
-    pub answer: Answer,
-    pub pen: Pen,
-}
-
-impl Answer {
-    // 0 where the command is accepted. No other place assigns these numbers.
+impl Fault {
+    // As C is told it, where 0 is an accepted command. No other place assigns these numbers.
+    #[tactic(auto, unfolding(crate::specs::Commands::number_of))]
     pub fn number(self) -> u32
-        ensures { result ≡ number_of self }
+        ensures { result ≡ number_of (Err self) }
     {
         match self {
-            Answer::Accepted => 0,
-            Answer::NoMove => 20,
-            Answer::NoRoom => 21,
-            Answer::NotFinite => 22,
+            Fault::NoMove => 20,
+            Fault::NoRoom => 21,
+            Fault::NotFinite => 22,
         }
     }
 }

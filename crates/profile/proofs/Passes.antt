@@ -6,26 +6,22 @@ use native.Mathlib.Omega.{arith}
 use native.Mathlib.Decide.{ℕ_discrete}
 use lib.Dec.{eqb}
 use borrow.Author.Tests.{not-true}
+use Rattle.std.specs.Prelude.{Result, Ok, Err, IsOk, Option, Some, None}
 use Rattle.records.specs.Record.{once}
-use Rattle.refusals.specs.Refusals.{found, refused}
+use Rattle.refusals.specs.Refusals.{Read}
 use Rattle.refusals.specs.declared.Refusal.{Refusal}
 use Rattle.flatten.specs.declared.tag.Head.{Head}
 use Rattle.profile.specs.Reads.{Given, tags, read_head, read_at}
 use Rattle.profile.specs.Rules.{head_of, has_segment, has_end, ends, six_words, first_of, segments, subpaths, open_at, beginning, leading, facts_at, rule_of, rule_at, broken70, broken71, broken72, broken73, broken74, broken75}
-use Rattle.profile.specs.Verdict.{first, unread_or, unread_at, against_or, against_at, rules_of}
-use Rattle.profile.specs.Trail.{Small, InReach, piece_of, entered_of, behind_of, plain_facts, segment_facts, segment_step, step_by, step_of, no_trail}
+use Rattle.profile.specs.Verdict.{Verdict, passed, unread, against, first, unread_or, unread_at, against_or, against_at, rules_of}
+use Rattle.profile.specs.Trail.{Small, InReach, piece_of, entered_of, behind_of, plain_facts, segment_facts, stepped, step_by, step_of, no_trail}
 use Rattle.profile.specs.Walk.{AllRead, ReadBy, TrailAt}
 use Rattle.profile.specs.Parts.{read_head_is, head_read_lem, in_reach}
 use Rattle.profile.specs.Passed.{AllFine, one_tells, read_silent, fine_silent, all_fine}
 use Rattle.profile.specs.declared.rules.Rule.{Rule}
-use Rattle.profile.specs.declared.rules.Fault.TheVariants.{Fine, Breaks}
-use Rattle.profile.specs.declared.sheet.Verdict.{Verdict}
-use Rattle.profile.specs.declared.sheet.Verdict.TheVariants.{Passed, Unread, Against}
-use Rattle.profile.specs.declared.sheet.Reads.{Reads}
-use Rattle.profile.specs.declared.sheet.Reads.TheVariants.{All, Refused}
 use Rattle.profile.specs.declared.trail.Piece.{Piece}
 use Rattle.profile.specs.declared.trail.Trail.{Trail}
-use Rattle.profile.specs.declared.trail.Stepped.{Stepped}
+use Rattle.profile.specs.declared.sheet.Failed.{Failed}
 
 -- ---- the first pass
 
@@ -33,14 +29,14 @@ pub none_read : (g : Given) → AllRead g 0
 none_read g i h = absurd (omega arith)
 
 module _ (g : Given) (i : ℕ) (h : Head) where
-  pub one_read : AllRead g i → read_at g i ≡ found h → AllRead g (suc i)
+  pub one_read : AllRead g i → read_at g i ≡ Ok h → AllRead g (suc i)
   one_read all e j l =
       elim (ℕ_discrete j i) [
-        | yes k ↦ subst (λ (j : ℕ). read_at g j ≡ found (head_of g j)) (sym k) (e ∙ ap found (read_head_is g i h e))
+        | yes k ↦ subst (λ (j : ℕ). read_at g j ≡ Ok (head_of g j)) (sym k) (e ∙ ap Ok (read_head_is g i h e))
         | no n ↦ all j (omega (arith, n))
       ]
 
-pub one_counted : (g : Given) (i n m : ℕ) (h : Head) → n ≡ segments g i → read_at g i ≡ found h → m ≡ n + once (has_segment h) → m ≡ segments g (suc i)
+pub one_counted : (g : Given) (i n m : ℕ) (h : Head) → n ≡ segments g i → read_at g i ≡ Ok h → m ≡ n + once (has_segment h) → m ≡ segments g (suc i)
 unfolding segments
 one_counted g i n m h e k s = s ∙ rw (e, read_head_is g i h k)
 
@@ -59,22 +55,22 @@ segments_few g (suc i) =
 pub counted_few : (g : Given) (i n : ℕ) → n ≡ segments g i → i < 2 ^ 40 → n < 2 ^ 40
 counted_few g i n e l = omega (arith, e, (segments_few g i).0)
 
-pub stops_unread : (g : Given) (i : ℕ) (why : Refusal) → AllRead g i → i < tags g → read_at g i ≡ refused why → (v : Verdict) → first (unread_at g) 0 (tags g) v ≡ Unread why i
+pub stops_unread : (g : Given) (i : ℕ) (why : Refusal) → AllRead g i → i < tags g → read_at g i ≡ Err why → (v : Verdict) → first (unread_at g) 0 (tags g) v ≡ unread why i
 unfolding unread_or
-stops_unread g i why all l e v = one_tells (unread_at g) v (Unread why i) 0 (tags g) i (omega arith) (omega arith) (read_silent g i all) (λ w. rw e)
+stops_unread g i why all l e v = one_tells (unread_at g) v (unread why i) 0 (tags g) i (omega arith) (omega arith) (read_silent g i all) (λ w. rw e)
 
 -- the tag reached is behind the last one
 pub reached : (g : Given) (i n : ℕ) (m : ℕ) → m ≡ segments g i → AllRead g i → i ≡ n → (m ≡ segments g n) × AllRead g n
 reached g i n m e all k = subst (λ (n : ℕ). (m ≡ segments g n) × AllRead g n) k (e, all)
 
 -- the head that was read is read again
-pub reads_again : (g : Given) (i : ℕ) (h : Head) → read_at g i ≡ found (head_of g i) → read_head g i ≡ found h → h ≡ head_of g i
+pub reads_again : (g : Given) (i : ℕ) (h : Head) → read_at g i ≡ Ok (head_of g i) → read_head g i ≡ Ok h → h ≡ head_of g i
 reads_again g i h e k = let z = head_read_lem g i (head_of g i) e in cc
 
-pub reads_still : (g : Given) (i : ℕ) (why : Refusal) → read_at g i ≡ found (head_of g i) → read_head g i ≡ refused why → ⊥
-reads_still g i why e k = let y = head_read_lem g i (head_of g i) e in let z : ◌≡◌ {A = ℕ} 0 1 = cc in omega arith
+pub reads_now : (g : Given) (i : ℕ) (r : Read Head) → read_at g i ≡ Ok (head_of g i) → r ≡ read_head g i → IsOk r
+reads_now g i r e k = rw (k ∙ head_read_lem g i (head_of g i) e) refl
 
-pub segment_reached : (g : Given) (i : ℕ) (h : Head) → read_at g i ≡ found (head_of g i) → h ≡ head_of g i → has_segment h ≡ true → InReach g.layout g.scene h
+pub segment_reached : (g : Given) (i : ℕ) (h : Head) → read_at g i ≡ Ok (head_of g i) → h ≡ head_of g i → has_segment h ≡ true → InReach g.layout g.scene h
 segment_reached g i h e k s = rw k (in_reach g i (head_of g i) e (not-true _ (rw k at s)))
 
 -- ---- the second pass
@@ -82,12 +78,12 @@ segment_reached g i h e k s = rw k (in_reach g i (head_of g i) e (not-true _ (rw
 pub none_fine : (g : Given) → AllFine g 0
 none_fine g i h = absurd (omega arith)
 
-pub one_fine : (g : Given) (i : ℕ) → AllFine g i → rule_at g i ≡ Fine → AllFine g (suc i)
-one_fine g i all e j l = elim (ℕ_discrete j i) [ yes k ↦ subst (λ (j : ℕ). rule_at g j ≡ Fine) (sym k) e | no n ↦ all j (omega (arith, n)) ]
+pub one_fine : (g : Given) (i : ℕ) → AllFine g i → rule_at g i ≡ None → AllFine g (suc i)
+one_fine g i all e j l = elim (ℕ_discrete j i) [ yes k ↦ subst (λ (j : ℕ). rule_at g j ≡ None) (sym k) e | no n ↦ all j (omega (arith, n)) ]
 
-pub stops_against : (g : Given) (i : ℕ) (rule : Rule) → AllFine g i → i < tags g → rule_at g i ≡ Breaks rule → Against rule i ≡ rules_of g
+pub stops_against : (g : Given) (i : ℕ) (rule : Rule) → AllFine g i → i < tags g → rule_at g i ≡ Some rule → against rule i ≡ rules_of g
 unfolding rules_of against_or
-stops_against g i rule all l e = sym (one_tells (against_at g) _ (Against rule i) 0 (tags g) i (omega arith) (omega arith) (fine_silent g i all) (λ w. rw e))
+stops_against g i rule all l e = sym (one_tells (against_at g) _ (against rule i) 0 (tags g) i (omega arith) (omega arith) (fine_silent g i all) (λ w. rw e))
 
 -- ---- the trail
 
@@ -210,28 +206,45 @@ module _ (g : Given) (i : ℕ) (t : Trail) (k : TrailAt g i t) where
         words = λ m. k.words (λ f. m (ap (λ (x : ℕ). eqb x 0) n.0 ∙ f)) ∙ ap (six_words g) (sym (leads_on g i m));
       }
 
-  -- what a step says: the first rule that tag i breaks, and the trail behind it
+  -- a step: the first rule that tag i breaks, or the trail behind it
   step_says : (total : ℕ) → total ≡ segments g (tags g) → (b : Bool) → has_segment (head_of g i) ≡ b
-      → ((step_by b g.layout g.scene (head_of g i) t total).fault ≡ rule_at g i) × TrailAt g (suc i) (step_by b g.layout g.scene (head_of g i) t total).trail
-  unfolding step_by segment_step
-  step_says total all true s = (segment_rule s total all, segment_behind s (has_end (head_of g i)) refl)
-  step_says total all false s = (plain_rule s, plain_behind s)
+      → (next : Trail) × (step_by b g.layout g.scene (head_of g i) t total ≡ stepped (rule_at g i) next) × TrailAt g (suc i) next
+  unfolding step_by
+  step_says total all true s =
+      let next = behind_of (entered_of t piece) (has_end (head_of g i)) in
+      (next, ap (λ (r : Option Rule). stepped r next) (segment_rule s total all), segment_behind s (has_end (head_of g i)) refl)
+  step_says total all false s = (t, ap (λ (r : Option Rule). stepped r t) (plain_rule s), plain_behind s)
 
-  pub step_rule : (total : ℕ) → total ≡ segments g (tags g) → (r : Stepped) → r ≡ step_of g.layout g.scene (head_of g i) t total → r.fault ≡ rule_at g i
-  step_rule total all r e = ap (λ (r : Stepped). r.fault) e ∙ (step_says total all _ refl).0
+  went_on : (r : Option Rule) (next u : Trail) → stepped r next ≡ Ok u → (r ≡ None) × (next ≡ u)
+  unfolding stepped
+  went_on None next u e = (refl, cc)
+  went_on (Some rule) next u e = let z : ◌≡◌ {A = ℕ} 0 1 = cc in absurd (omega arith)
 
-  pub step_trail : (total : ℕ) → total ≡ segments g (tags g) → (r : Stepped) → r ≡ step_of g.layout g.scene (head_of g i) t total → TrailAt g (suc i) r.trail
-  step_trail total all r e = subst (λ (r : Stepped). TrailAt g (suc i) r.trail) (sym e) (step_says total all _ refl).1
+  broke : (r : Option Rule) (next : Trail) (rule : Rule) → stepped r next ≡ Err rule → r ≡ Some rule
+  unfolding stepped
+  broke None next rule e = let z : ◌≡◌ {A = ℕ} 0 1 = cc in absurd (omega arith)
+  broke (Some other) next rule e = cc
 
-pub at_end : (g : Given) (i : ℕ) (t : Trail) → TrailAt g i t → AllFine g i → i ≡ tags g → Passed t.segments t.subpaths ≡ rules_of g
-at_end g i t k all e = let z = subst (λ (n : ℕ). TrailAt g n t × AllFine g n) e (k, all) in ap (λ (n : ℕ). Passed n t.subpaths) z.0.counted ∙ ap (Passed (segments g (tags g))) z.0.finished ∙ sym (all_fine g z.1)
+  pub step_on : (total : ℕ) → total ≡ segments g (tags g) → (u : Trail) → step_of g.layout g.scene (head_of g i) t total ≡ Ok u → (rule_at g i ≡ None) × TrailAt g (suc i) u
+  step_on total all u e =
+      let k = step_says total all _ refl in
+      let w = went_on (rule_at g i) k.0 u (sym k.1 ∙ e) in
+      (w.0, subst (TrailAt g (suc i)) w.1 k.2)
+
+  pub step_breaks : (total : ℕ) → total ≡ segments g (tags g) → (rule : Rule) → step_of g.layout g.scene (head_of g i) t total ≡ Err rule → rule_at g i ≡ Some rule
+  step_breaks total all rule e =
+      let k = step_says total all _ refl in
+      broke (rule_at g i) k.0 rule (sym k.1 ∙ e)
+
+pub at_end : (g : Given) (i : ℕ) (t : Trail) → TrailAt g i t → AllFine g i → i ≡ tags g → passed t.segments t.subpaths ≡ rules_of g
+at_end g i t k all e = let z = subst (λ (n : ℕ). TrailAt g n t × AllFine g n) e (k, all) in ap (λ (n : ℕ). passed n t.subpaths) z.0.counted ∙ ap (passed (segments g (tags g))) z.0.finished ∙ sym (all_fine g z.1)
 
 -- ---- what the first pass answered
 
-pub by_all : (g : Given) (r : Reads) (total : ℕ) → ReadBy g r → r ≡ All total → (total ≡ segments g (tags g)) × AllRead g (tags g)
+pub by_all : (g : Given) (r : Result ℕ Failed) (total : ℕ) → ReadBy g r → r ≡ Ok total → (total ≡ segments g (tags g)) × AllRead g (tags g)
 unfolding ReadBy
 by_all g r total k e = subst (ReadBy g) e k
 
-pub by_refused : (g : Given) (r : Reads) (why : Refusal) (i : ℕ) → ReadBy g r → r ≡ Refused why i → (v : Verdict) → first (unread_at g) 0 (tags g) v ≡ Unread why i
+pub by_refused : (g : Given) (r : Result ℕ Failed) (f : Failed) → ReadBy g r → r ≡ Err f → (v : Verdict) → first (unread_at g) 0 (tags g) v ≡ Err f
 unfolding ReadBy
-by_refused g r why i k e = subst (ReadBy g) e k
+by_refused g r f k e = subst (ReadBy g) e k

@@ -2,8 +2,7 @@
 use Rattle.std.specs.Prelude.{◌≡◌}
 use Rattle.laws.specs.Only.{Only, determined}
 use Rattle.profile.specs.Reads.{Given}
-use Rattle.profile.specs.Verdict.{profile_of, told_of}
-use Rattle.profile.specs.declared.sheet.Verdict.{Verdict}
+use Rattle.profile.specs.Verdict.{Verdict, profile_of, told_of}
 
 pub test_scene_only : (g : Given) → Only (λ (r : Verdict). r ≡ profile_of g)
 test_scene_only g = determined (profile_of g)

@@ -1,10 +1,11 @@
 -- The rules of the profile, one by one, over all tags of a call. Definitions only.
-use Rattle.std.specs.Prelude.{ℕ, zero, suc, ◌+◌, ◌*◌, ◌%◌, Bool, true, false, not, ◌&&◌, ◌||◌, cond, List, [], ◌∷◌, eqb, leb, get_or}
+use Rattle.std.specs.Prelude.{ℕ, zero, suc, ◌+◌, ◌*◌, ◌%◌, Bool, true, false, not, ◌&&◌, ◌||◌, cond, List, [], ◌∷◌, eqb, leb, get_or, Ok, Err, Option, Some, None}
+use Rattle.std.specs.Cmp.Lexicographic.{pointwise}
 use Rattle.std.specs.Float.{binary32}
 use Rattle.std.specs.Float.Ieee.{of_bits, eq}
 use Rattle.laws.specs.Binary32.{whole}
 use Rattle.records.specs.Record.{once}
-use Rattle.refusals.specs.Refusals.{Read, found, refused}
+use Rattle.refusals.specs.Refusals.{Read}
 use Rattle.spiral.specs.Util.{eq_of}
 use Rattle.spiral.specs.declared.util.Vec2.{Vec2}
 use Rattle.scene.specs.Tags.{bit, sums, tag_data}
@@ -15,16 +16,14 @@ use Rattle.flatten.specs.declared.tag.Head.{Head}
 use Rattle.profile.specs.Reads.{Given, tags, read_head, no_segment}
 use Rattle.profile.specs.declared.rules.Rule.{Rule}
 use Rattle.profile.specs.declared.rules.Rule.TheVariants.{Stroke, EvenOdd, NotWide, Transform, Subpath, TooMany}
-use Rattle.profile.specs.declared.rules.Fault.{Fault}
-use Rattle.profile.specs.declared.rules.Fault.TheVariants.{Fine, Breaks}
 use Rattle.profile.specs.declared.rules.Facts.{Facts}
 
 -- ---- a tag
 
 -- what was read; a refused read, behind which no rule is looked at, stands for a tag with nothing
 unfoldable pub head_or : Read Head → Head
-head_or (found h) = h
-head_or (refused why) = record { tag = tag_data 0 (sums 0 0 0 0); flags = 0 }
+head_or (Ok h) = h
+head_or (Err why) = record { tag = tag_data 0 (sums 0 0 0 0); flags = 0 }
 
 unfoldable pub head_of : Given → ℕ → Head
 head_of g i = head_or (read_head g i)
@@ -55,10 +54,7 @@ abbrev pub six_words : Given → ℕ → List ℕ
 six_words g i = six_at g.scene (transform_from g.layout (head_of g i))
 
 unfoldable pub same_words : List ℕ → List ℕ → Bool
-same_words [] [] = true
-same_words [] (b ∷ bs) = false
-same_words (a ∷ ws) [] = false
-same_words (a ∷ ws) (b ∷ bs) = eqb a b && same_words ws bs
+same_words = pointwise eqb
 
 -- +0 or -0
 unfoldable pub is_zero : ℕ → Bool
@@ -154,11 +150,11 @@ unfoldable pub broken75 : Facts → Bool
 broken75 f = f.segment && f.many
 
 -- the first of them that a tag breaks
-unfoldable pub unless : Bool → Rule → Fault → Fault
-unless true rule next = Breaks rule
+unfoldable pub unless : Bool → Rule → Option Rule → Option Rule
+unless true rule next = Some rule
 unless false rule next = next
 
-unfoldable pub rule_of : Facts → Fault
+unfoldable pub rule_of : Facts → Option Rule
 rule_of f =
     unless (broken70 f) Stroke
     (unless (broken71 f) EvenOdd
@@ -166,7 +162,7 @@ rule_of f =
     (unless (broken73 f) Transform
     (unless (broken74 f) Subpath
     (unless (broken75 f) TooMany
-    Fine)))))
+    None)))))
 
-abbrev pub rule_at : Given → ℕ → Fault
+abbrev pub rule_at : Given → ℕ → Option Rule
 rule_at g i = rule_of (facts_at g i)

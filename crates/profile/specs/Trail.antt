@@ -1,16 +1,15 @@
 -- What the code knows behind some tags, and what one tag does to it. Definitions only.
-use Rattle.std.specs.Prelude.{ℕ, ◌+◌, ◌%◌, ◌^◌, ◌<◌, ◌≤◌, ◌≡◌, Bool, true, false, cond, List, eqb, leb, length, replicate}
+use Rattle.std.specs.Prelude.{ℕ, ◌+◌, ◌%◌, ◌^◌, ◌<◌, ◌≤◌, ◌≡◌, Bool, true, false, cond, List, eqb, leb, length, replicate, Result, Ok, Err, is_ok, Option, Some, None}
 use Rattle.spiral.specs.Util.{eq_of}
 use Rattle.scene.specs.Reading.{wide, origin, segment_of}
 use Rattle.flatten.specs.Tag.{is_path, is_stroke}
 use Rattle.flatten.specs.declared.call.Layout.{Layout}
 use Rattle.flatten.specs.declared.tag.Head.{Head}
 use Rattle.profile.specs.Rules.{has_segment, has_end, is_even_odd, transform_from, six_at, aligned_to, point_of, rule_of}
-use Rattle.profile.specs.declared.rules.Fault.{Fault}
+use Rattle.profile.specs.declared.rules.Rule.{Rule}
 use Rattle.profile.specs.declared.rules.Facts.{Facts}
 use Rattle.profile.specs.declared.trail.Piece.{Piece}
 use Rattle.profile.specs.declared.trail.Trail.{Trail}
-use Rattle.profile.specs.declared.trail.Stepped.{Stepped}
 
 -- counts that do not wrap
 pub record Small (t : Trail) : Type 0 where
@@ -21,7 +20,7 @@ pub record Small (t : Trail) : Type 0 where
 pub record InReach (layout : Layout) (scene : List ℕ) (h : Head) : Type 0 where
   pub segment : eqb (h.tag.tag_byte % 4) 0 ≡ false
   pub words : transform_from layout h + 6 ≤ length scene
-  pub points : (segment_of h.tag.tag_byte false h.tag.monoid.pathseg_offset scene layout.data_base).found ≡ true
+  pub points : is_ok (segment_of h.tag.tag_byte false h.tag.monoid.pathseg_offset scene layout.data_base) ≡ true
 
 unfoldable pub piece_of : Layout → List ℕ → Head → Piece
 piece_of layout scene h =
@@ -75,14 +74,19 @@ segment_facts h p t total =
       many = leb 4096 t.segments;
     }
 
-abbrev pub stepped : Fault → Trail → Stepped
-stepped fault t = record { fault = fault; trail = t }
+-- the rule that a tag breaks, or the trail behind it
+abbrev pub Stepped : Type 0
+Stepped = Result Trail Rule
 
-unfoldable pub segment_step : Head → Piece → Trail → ℕ → Stepped
-segment_step h p t total = stepped (rule_of (segment_facts h p t total)) (behind_of t (has_end h))
+unfoldable pub stepped : Option Rule → Trail → Stepped
+stepped None t = Ok t
+stepped (Some rule) t = Err rule
 
 unfoldable pub step_by : Bool → Layout → List ℕ → Head → Trail → ℕ → Stepped
-step_by true layout scene h t total = segment_step h (piece_of layout scene h) (entered_of t (piece_of layout scene h)) total
+step_by true layout scene h t total =
+    let piece = piece_of layout scene h in
+    let within = entered_of t piece in
+    stepped (rule_of (segment_facts h piece within total)) (behind_of within (has_end h))
 step_by false layout scene h t total = stepped (rule_of (plain_facts h)) t
 
 abbrev pub step_of : Layout → List ℕ → Head → Trail → ℕ → Stepped

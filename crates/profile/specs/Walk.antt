@@ -1,23 +1,19 @@
 -- What the two passes over the tags know: that all reads were found, and the trail behind some tags. Definitions only.
-use Rattle.std.specs.Prelude.{ℕ, ◌<◌, ◌≡◌, true, eqb}
-use Rattle.refusals.specs.Refusals.{found}
+use Rattle.std.specs.Prelude.{ℕ, ◌<◌, ◌≡◌, true, eqb, Result, Ok, Err}
 use Rattle.profile.specs.Reads.{Given, tags, read_at}
 use Rattle.profile.specs.Rules.{head_of, six_words, first_of, segments, subpaths, open_at, beginning, leading}
-use Rattle.profile.specs.Verdict.{unread_at, first}
-use Rattle.profile.specs.declared.sheet.Verdict.{Verdict}
-use Rattle.profile.specs.declared.sheet.Verdict.TheVariants.{Unread}
-use Rattle.profile.specs.declared.sheet.Reads.{Reads}
-use Rattle.profile.specs.declared.sheet.Reads.TheVariants.{All, Refused}
+use Rattle.profile.specs.Verdict.{Verdict, unread_at, first}
+use Rattle.profile.specs.declared.sheet.Failed.{Failed}
 use Rattle.profile.specs.declared.trail.Trail.{Trail}
 
 -- the first n tags were read
 abbrev pub AllRead : Given → ℕ → Type 0
-AllRead g n = (i : ℕ) → i < n → read_at g i ≡ found (head_of g i)
+AllRead g n = (i : ℕ) → i < n → read_at g i ≡ Ok (head_of g i)
 
 -- what the first pass found
-unfoldable pub ReadBy : Given → Reads → Type 0
-ReadBy g (All total) = (total ≡ segments g (tags g)) × AllRead g (tags g)
-ReadBy g (Refused why i) = (v : Verdict) → first (unread_at g) 0 (tags g) v ≡ Unread why i
+unfoldable pub ReadBy : Given → Result ℕ Failed → Type 0
+ReadBy g (Ok total) = (total ≡ segments g (tags g)) × AllRead g (tags g)
+ReadBy g (Err f) = (v : Verdict) → first (unread_at g) 0 (tags g) v ≡ Err f
 
 -- where the second pass stands before tag i
 pub record TrailAt (g : Given) (i : ℕ) (t : Trail) : Type 0 where

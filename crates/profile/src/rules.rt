@@ -1,27 +1,39 @@
 // The rules of the profile, by what holds of one tag.
 ghost use Rattle.std.specs.Prelude.{◌≡◌};
 ghost use Rattle.profile.specs.Rules.{broken70, broken71, broken72, broken73, broken74, broken75, rule_of};
+ghost use Rattle.profile.specs.Verdict.{number_of};
 
 #[derive(Clone, Copy)]
 pub enum Rule {
-    // 70: a stroke style on a segment or a path tag.
+    // A stroke style on a segment or a path tag.
     Stroke,
-    // 71: the even-odd bit on one.
+    // The even-odd bit on one.
     EvenOdd,
-    // 72: a segment whose points are not f32.
+    // A segment whose points are not f32.
     NotWide,
-    // 73: a segment with another transform than the sheet's, or with shear.
+    // A segment with another transform than the sheet's, or with shear.
     Transform,
-    // 74: a subpath that is not finished by a segment's end bit on its first point.
+    // A subpath that is not finished by a segment's end bit on its first point.
     Subpath,
-    // 75: the 4,097th segment.
+    // The 4,097th segment.
     TooMany,
 }
 
-#[derive(Clone, Copy)]
-pub enum Fault {
-    Fine,
-    Breaks(Rule),
+impl Rule {
+    // No other place assigns these numbers.
+    #[tactic(auto, unfolding(crate::specs::Verdict::number_of))]
+    pub fn number(self) -> u32
+        ensures { result ≡ number_of self }
+    {
+        match self {
+            Rule::Stroke => 70,
+            Rule::EvenOdd => 71,
+            Rule::NotWide => 72,
+            Rule::Transform => 73,
+            Rule::Subpath => 74,
+            Rule::TooMany => 75,
+        }
+    }
 }
 
 // What holds of a tag; from `wide` on, of its segment.
@@ -43,90 +55,76 @@ pub struct Facts {
     pub many: bool,
 }
 
-fn breaks_stroke(f: Facts) -> bool
-    ensures { result ≡ broken70 f }
-{
-    if f.segment {
-        return f.stroke;
+impl Facts {
+    #[tactic(auto, unfolding(crate::specs::Rules::broken70))]
+    fn breaks_stroke(self) -> bool
+        ensures { result ≡ broken70 self }
+    {
+        (self.segment || self.path) && self.stroke
     }
-    if f.path {
-        return f.stroke;
-    }
-    false
-}
 
-fn breaks_even_odd(f: Facts) -> bool
-    ensures { result ≡ broken71 f }
-{
-    if f.segment {
-        return f.even_odd;
+    #[tactic(auto, unfolding(crate::specs::Rules::broken71))]
+    fn breaks_even_odd(self) -> bool
+        ensures { result ≡ broken71 self }
+    {
+        (self.segment || self.path) && self.even_odd
     }
-    if f.path {
-        return f.even_odd;
-    }
-    false
-}
 
-fn breaks_wide(f: Facts) -> bool
-    ensures { result ≡ broken72 f }
-{
-    if f.segment {
-        return !f.wide;
+    #[tactic(auto, unfolding(crate::specs::Rules::broken72))]
+    fn breaks_wide(self) -> bool
+        ensures { result ≡ broken72 self }
+    {
+        self.segment && !self.wide
     }
-    false
-}
 
-fn breaks_transform(f: Facts) -> bool
-    ensures { result ≡ broken73 f }
-{
-    if f.segment {
-        return !f.aligned;
+    #[tactic(auto, unfolding(crate::specs::Rules::broken73))]
+    fn breaks_transform(self) -> bool
+        ensures { result ≡ broken73 self }
+    {
+        self.segment && !self.aligned
     }
-    false
-}
 
-fn breaks_subpath(f: Facts) -> bool
-    ensures { result ≡ broken74 f }
-{
-    if f.segment {
-        if f.end {
-            return !f.shut;
+    #[tactic(auto, unfolding(crate::specs::Rules::broken74))]
+    fn breaks_subpath(self) -> bool
+        ensures { result ≡ broken74 self }
+    {
+        match (self.segment, self.end) {
+            (true, true) => !self.shut,
+            (true, false) => self.last,
+            (false, end) => end,
         }
-        return f.last;
     }
-    f.end
-}
 
-fn breaks_count(f: Facts) -> bool
-    ensures { result ≡ broken75 f }
-{
-    if f.segment {
-        return f.many;
+    #[tactic(auto, unfolding(crate::specs::Rules::broken75))]
+    fn breaks_count(self) -> bool
+        ensures { result ≡ broken75 self }
+    {
+        self.segment && self.many
     }
-    false
-}
 
-// The first rule that a tag breaks.
-pub(crate) fn rule_of(f: Facts) -> Fault
-    ensures { result ≡ rule_of f }
-{
-    if breaks_stroke(f) {
-        return Fault::Breaks(Rule::Stroke);
+    // The first rule that the tag breaks.
+    #[tactic(auto, unfolding(crate::specs::Rules::rule_of, crate::specs::Rules::unless))]
+    pub(crate) fn rule(self) -> Option<Rule>
+        ensures { result ≡ rule_of self }
+    {
+        if self.breaks_stroke() {
+            return Some(Rule::Stroke);
+        }
+        if self.breaks_even_odd() {
+            return Some(Rule::EvenOdd);
+        }
+        if self.breaks_wide() {
+            return Some(Rule::NotWide);
+        }
+        if self.breaks_transform() {
+            return Some(Rule::Transform);
+        }
+        if self.breaks_subpath() {
+            return Some(Rule::Subpath);
+        }
+        if self.breaks_count() {
+            return Some(Rule::TooMany);
+        }
+        None
     }
-    if breaks_even_odd(f) {
-        return Fault::Breaks(Rule::EvenOdd);
-    }
-    if breaks_wide(f) {
-        return Fault::Breaks(Rule::NotWide);
-    }
-    if breaks_transform(f) {
-        return Fault::Breaks(Rule::Transform);
-    }
-    if breaks_subpath(f) {
-        return Fault::Breaks(Rule::Subpath);
-    }
-    if breaks_count(f) {
-        return Fault::Breaks(Rule::TooMany);
-    }
-    Fault::Fine
 }

@@ -2,13 +2,11 @@
 ghost use Rattle.std.specs.Prelude.{◌≡◌, true, false, ◌+◌, ◌*◌, ◌%◌, ◌<◌, ◌≤◌, eqb, length};
 ghost use Rattle.scene.specs.Reading.{wide};
 ghost use Rattle.flatten.specs.Tag.{is_path, is_stroke};
-ghost use Rattle.profile.specs.Rules.{has_segment, has_end, is_even_odd, six_at, is_zero, straight, same_words, aligned_to};
-ghost use Rattle.profile.specs.Trail.{Small, piece_of, InReach, entered_of, behind_of, plain_facts, segment_facts, segment_step, step_of, no_trail};
+ghost use Rattle.profile.specs.Rules.{has_segment, has_end, is_even_odd, six_at, is_zero, straight, aligned_to, rule_of};
+ghost use Rattle.profile.specs.Trail.{Small, piece_of, InReach, entered_of, behind_of, plain_facts, segment_facts, stepped, step_of, no_trail};
 
-use crate::rules::{Facts, Fault, rule_of};
-use flatten::call::Layout;
-use flatten::tag::Head;
-use scene::reading::read_path_segment;
+use crate::rules::{Facts, Rule};
+use flatten::tag::{Given, Head};
 use spiral::util::Vec2;
 
 // The six words of a segment's transform, and where it begins and ends.
@@ -30,13 +28,6 @@ pub struct Trail {
     pub words: [u32; 6],
 }
 
-// What a tag breaks, and the trail behind it.
-#[derive(Clone, Copy)]
-pub struct Stepped {
-    pub fault: Fault,
-    pub trail: Trail,
-}
-
 fn six_words(scene: &[u32], at: usize) -> [u32; 6]
     requires { at + 6 ≤ length scene.now }
     ensures { result ≡ six_at scene.now at }
@@ -51,19 +42,6 @@ fn six_words(scene: &[u32], at: usize) -> [u32; 6]
     ]
 }
 
-fn same_words(a: [u32; 6], b: [u32; 6]) -> bool
-    ensures { result ≡ same_words a b }
-{
-    let mut k: usize = 0;
-    while k < 6 {
-        if a[k] != b[k] {
-            return false;
-        }
-        k += 1;
-    }
-    true
-}
-
 // +0 or -0.
 fn is_zero(word: u32) -> bool
     ensures { result ≡ is_zero word }
@@ -72,89 +50,68 @@ fn is_zero(word: u32) -> bool
 }
 
 // No shear: the second and the third number are zero.
+#[tactic(auto, unfolding(crate::specs::Rules::straight))]
 fn is_straight(words: [u32; 6]) -> bool
     ensures { result ≡ straight words }
 {
-    if is_zero(words[1]) {
-        return is_zero(words[2]);
-    }
-    false
+    is_zero(words[1]) && is_zero(words[2])
 }
 
 // What is looked at of a segment that was read.
-fn piece_of(layout: Layout, scene: &[u32], head: Head) -> Piece
-    requires { InReach layout scene.now head }
-    ensures { result ≡ piece_of layout scene.now head }
+fn piece_of(given: Given, head: Head) -> Piece
+    requires { InReach given.layout given.scene.now head }
+    ensures { let g = given.entry in result ≡ piece_of g.layout g.scene.now head }
 {
-    let tag = head.tag;
-    let at = layout.transform_base as usize + tag.monoid.trans_ix as usize * 6;
-    let words = six_words(scene, at);
-    let offset = tag.monoid.pathseg_offset;
-    let read = read_path_segment(tag.tag_byte, false, offset, scene, layout.data_base);
-    let points = read.points;
-    let first = points[0];
-    let last = points[3];
-    Piece { words, first, last }
-}
-
-fn words_of(trail: Trail, piece: Piece) -> [u32; 6]
-    ensures { result ≡ (entered_of trail piece).words }
-{
-    if trail.segments == 0 {
-        let words = piece.words;
-        return words;
+    let trans_ix = head.tag.monoid.trans_ix;
+    let at = given.layout.transform_base as usize + trans_ix as usize * 6;
+    let words = six_words(given.scene, at);
+    let points = given.read_points(head.tag, false).unwrap();
+    Piece {
+        words,
+        first: points[0],
+        last: points[3],
     }
-    let words = trail.words;
-    words
-}
-
-fn start_of(trail: Trail, piece: Piece) -> Vec2
-    ensures { result ≡ (entered_of trail piece).start }
-{
-    if trail.unfinished {
-        return trail.start;
-    }
-    piece.first
 }
 
 // The first segment has the sheet's transform, and where nothing is open a subpath begins.
+#[tactic(auto, unfolding(crate::specs::Trail::entered_of))]
 fn entered(trail: Trail, piece: Piece) -> Trail
     ensures { result ≡ entered_of trail piece }
 {
-    let words = words_of(trail, piece);
-    let start = start_of(trail, piece);
     Trail {
-        segments: trail.segments,
-        subpaths: trail.subpaths,
-        unfinished: trail.unfinished,
-        start,
-        words,
+        start: if trail.unfinished {
+            trail.start
+        } else {
+            piece.first
+        },
+        words: if trail.segments == 0 {
+            piece.words
+        } else {
+            trail.words
+        },
+        ..trail
     }
 }
 
 // A segment is behind: only its end bit ends its subpath.
+#[tactic(auto, unfolding(crate::specs::Trail::behind_of))]
 fn behind(trail: Trail, end: bool) -> Trail
     requires { Small trail }
     ensures { result ≡ behind_of trail end }
 {
-    let start = trail.start;
-    let words = trail.words;
     let segments = trail.segments + 1;
     if end {
         return Trail {
             segments,
             subpaths: trail.subpaths + 1,
             unfinished: false,
-            start,
-            words,
+            ..trail
         };
     }
     Trail {
         segments,
-        subpaths: trail.subpaths,
         unfinished: true,
-        start,
-        words,
+        ..trail
     }
 }
 
@@ -170,18 +127,6 @@ fn has_end(head: Head) -> bool
     head.tag.tag_byte / 0x04 % 2 == 1
 }
 
-fn is_path(head: Head) -> bool
-    ensures { result ≡ is_path head }
-{
-    head.tag.tag_byte / 0x10 % 2 == 1
-}
-
-fn is_stroke(head: Head) -> bool
-    ensures { result ≡ is_stroke head }
-{
-    head.flags / 0x8000_0000 % 2 == 1
-}
-
 fn is_even_odd(head: Head) -> bool
     ensures { result ≡ is_even_odd head }
 {
@@ -189,14 +134,15 @@ fn is_even_odd(head: Head) -> bool
 }
 
 // Of a tag with no segment.
+#[tactic(auto, unfolding(crate::specs::Trail::plain_facts))]
 fn plain_facts(head: Head) -> Facts
     ensures { result ≡ plain_facts head }
 {
     Facts {
         segment: false,
-        path: is_path(head),
+        path: head.is_path(),
         end: has_end(head),
-        stroke: is_stroke(head),
+        stroke: head.is_stroke(),
         even_odd: is_even_odd(head),
         wide: false,
         aligned: false,
@@ -206,64 +152,57 @@ fn plain_facts(head: Head) -> Facts
     }
 }
 
+#[tactic(auto, unfolding(crate::specs::Rules::aligned_to, crate::specs::Rules::same_words))]
 fn is_aligned(words: [u32; 6], sheet: [u32; 6]) -> bool
     ensures { result ≡ aligned_to words sheet }
 {
-    if same_words(words, sheet) {
-        return is_straight(words);
-    }
-    false
+    words == sheet && is_straight(words)
 }
 
 // Of a tag with a segment, on a trail that it has entered.
+#[tactic(auto, unfolding(crate::specs::Trail::segment_facts))]
 fn segment_facts(head: Head, piece: Piece, trail: Trail, total: u64) -> Facts
     requires { Small trail }
     ensures { result ≡ segment_facts head piece trail total }
 {
-    let words = piece.words;
-    let sheet = trail.words;
-    let last = piece.last;
-    let start = trail.start;
     Facts {
         segment: true,
-        path: is_path(head),
+        path: head.is_path(),
         end: has_end(head),
-        stroke: is_stroke(head),
+        stroke: head.is_stroke(),
         even_odd: is_even_odd(head),
         wide: head.tag.tag_byte / 0x08 % 2 == 1,
-        aligned: is_aligned(words, sheet),
-        shut: last.eq(start),
+        aligned: is_aligned(piece.words, trail.words),
+        shut: piece.last == trail.start,
         last: total == trail.segments + 1,
         many: 4096 <= trail.segments,
     }
 }
 
-fn segment_step(head: Head, piece: Piece, trail: Trail, total: u64) -> Stepped
-    requires { Small trail }
-    ensures { result ≡ segment_step head piece trail total }
+#[tactic(auto, unfolding(crate::specs::Trail::stepped))]
+fn stepped(facts: Facts, behind: Trail) -> Result<Trail, Rule>
+    ensures { result ≡ stepped (rule_of facts) behind }
 {
-    let fault = rule_of(segment_facts(head, piece, trail, total));
-    let next = behind(trail, has_end(head));
-    Stepped { fault, trail: next }
+    match facts.rule() {
+        Some(rule) => Err(rule),
+        None => Ok(behind),
+    }
 }
 
-// A tag that was read, on the trail of those before it, where the call has so many segments in all.
-pub(crate) fn take_step(
-    layout: Layout,
-    scene: &[u32],
-    head: Head,
-    trail: Trail,
-    total: u64,
-) -> Stepped
+// The trail behind a tag that was read, on the trail of those before it, where the call has so many segments in all; or the rule
+// that the tag breaks.
+pub(crate) fn take_step(given: Given, head: Head, trail: Trail, total: u64) -> Result<Trail, Rule>
     requires small { Small trail }
-    requires in_reach { has_segment head ≡ true → InReach layout scene.now head }
-    ensures { result ≡ step_of layout scene.now head trail total }
+    requires in_reach { has_segment head ≡ true → InReach given.layout given.scene.now head }
+    ensures { let g = given.entry in result ≡ step_of g.layout g.scene.now head trail total }
 {
-    if has_segment(head) {
-        let piece = piece_of(layout, scene, head);
-        let within = entered(trail, piece);
-        return segment_step(head, piece, within, total);
+    if !has_segment(head) {
+        return stepped(plain_facts(head), trail);
     }
-    let fault = rule_of(plain_facts(head));
-    Stepped { fault, trail }
+    let piece = piece_of(given, head);
+    let within = entered(trail, piece);
+    stepped(
+        segment_facts(head, piece, within, total),
+        behind(within, has_end(head)),
+    )
 }

@@ -3,9 +3,14 @@ use Rattle.std.specs.Prelude.{ℕ, zero, suc, ◌+◌, ◌*◌, ◌/◌, Bool, t
 use Rattle.std.specs.Float.{binary32}
 use Rattle.std.specs.Float.Ieee.{of_bits}
 use Rattle.std.specs.Float.Ieee.Scale.{finite}
+use Rattle.records.specs.declared.Line.{Line}
 use Rattle.records.specs.declared.Counts.{Counts}
 
 -- ---- the form of a record
+
+-- the line from (x, y) to (z, w)
+abbrev pub between : ℕ → ℕ → ℕ → ℕ → Line
+between x y z w = record { x = x; y = y; z = z; w = w }
 
 -- its six words: the path, the tag that drew it, the x and y of its start, the x and y of its end; each coordinate is an f32 by its bits
 abbrev pub record_words : ℕ → ℕ → ℕ → ℕ → ℕ → ℕ → List ℕ
@@ -26,6 +31,10 @@ word ws k i = get_or ws (place_of k + i) 0
 abbrev pub path_of : List ℕ → ℕ → ℕ
 path_of ws k = word ws k 0
 
+-- the line of record k: its words from the start's x to the end's y
+abbrev pub line_at : List ℕ → ℕ → Line
+line_at ws k = between (word ws k 2) (word ws k 3) (word ws k 4) (word ws k 5)
+
 -- ---- its coordinates as numbers
 
 -- the bits are those of a NaN or an infinity
@@ -39,6 +48,10 @@ bad_at ws k = is_bad (word ws k 2) || (is_bad (word ws k 3) || (is_bad (word ws 
 -- a coordinate's bits, with -0 written as +0
 unfoldable pub key : ℕ → ℕ
 key w = cond (eqb w 2147483648) 0 w
+
+-- the line of record k by its keys
+abbrev pub keys_at : List ℕ → ℕ → Line
+keys_at ws k = between (key (word ws k 2)) (key (word ws k 3)) (key (word ws k 4)) (key (word ws k 5))
 
 -- whether the path q and the coordinates a and b are the path and the point of keys x and y
 unfoldable pub is_point : ℕ → ℕ → ℕ → ℕ → ℕ → ℕ → Bool

@@ -2,7 +2,7 @@
 #![tactic(auto)]
 
 ghost use Rattle.std.specs.Prelude.{◌≡◌, ◌<◌};
-ghost use Rattle.records.specs.Record.{count, word, is_bad, bad_at, key, is_point, once, hit_at, counts_of};
+ghost use Rattle.records.specs.Record.{count, word, line_at, keys_at, is_bad, bad_at, key, is_point, once, hit_at, counts_of};
 
 // A NaN or an infinity: all bits of the exponent are set.
 pub fn is_bad(w: u32) -> bool
@@ -32,16 +32,13 @@ pub fn one(b: bool) -> usize
     if b { 1 } else { 0 }
 }
 
-// The word at place i of record k; 0 behind the list's end.
+// The word at place i of record k, and 0 behind the list's end, as `word` reads a list. No Option: each caller's record is known
+// to be there, so each would only write `unwrap_or(0)` itself.
 pub fn word_at(list: &[u32], k: usize, i: usize) -> u32
     ensures { result ≡ word list.now k i }
 {
-    let n = list.len();
-    if n / 6 < k {
-        return 0;
-    }
-    let at = k * 6;
-    if i < n - at { list[at + i] } else { 0 }
+    let at = k.saturating_mul(6).saturating_add(i);
+    list.get(at).copied().unwrap_or(0)
 }
 
 // The same where the record is known to be there: without a test.
@@ -59,36 +56,56 @@ pub fn key_at(list: &[u32], k: usize, i: usize) -> u32
     key_of(word_at(list, k, i))
 }
 
+// A line from (x, y) to (z, w): the words of its coordinates, or their keys.
+#[derive(Clone, Copy)]
+pub struct Line {
+    pub x: u32,
+    pub y: u32,
+    pub z: u32,
+    pub w: u32,
+}
+
+// The line of record k by its words.
+pub fn line_at(list: &[u32], k: usize) -> Line
+    ensures { result ≡ line_at list.now k }
+{
+    Line {
+        x: word_at(list, k, 2),
+        y: word_at(list, k, 3),
+        z: word_at(list, k, 4),
+        w: word_at(list, k, 5),
+    }
+}
+
+// The line of record k by its keys.
+pub fn keys_at(list: &[u32], k: usize) -> Line
+    ensures { result ≡ keys_at list.now k }
+{
+    Line {
+        x: key_at(list, k, 2),
+        y: key_at(list, k, 3),
+        z: key_at(list, k, 4),
+        w: key_at(list, k, 5),
+    }
+}
+
 // Whether a coordinate of record k is a NaN or an infinity.
+#[tactic(auto, unfolding(crate::specs::Record::bad_at))]
 pub fn bad_at(list: &[u32], k: usize) -> bool
     ensures { result ≡ bad_at list.now k }
 {
-    let a = is_bad(word_at(list, k, 2));
-    let b = is_bad(word_at(list, k, 3));
-    let c = is_bad(word_at(list, k, 4));
-    let d = is_bad(word_at(list, k, 5));
-    a | (b | (c | d))
+    let line = line_at(list, k);
+    is_bad(line.x) | (is_bad(line.y) | (is_bad(line.z) | is_bad(line.w)))
 }
 
-// 1 where record k has the path, and the point of keys x and y for its start, else 0.
-fn start_is(list: &[u32], k: usize, path: u32, x: u32, y: u32) -> usize
-    requires { k < count list.now }
-    ensures { result ≡ hit_at (is_point path x y) 2 list.now k }
+// 1 where record k has the path, and at the place AT the point of keys x and y, else 0: its start is at 2, its end at 4.
+fn hit<const AT: usize>(list: &[u32], k: usize, path: u32, x: u32, y: u32) -> usize
+    requires { (k < count list.now) × (AT < 5) }
+    ensures { result ≡ hit_at (is_point path x y) AT list.now k }
 {
     let q = word_in(list, k, 0);
-    let a = word_in(list, k, 2);
-    let b = word_in(list, k, 3);
-    one(is_point(path, x, y, q, a, b))
-}
-
-// The same of its end.
-fn end_is(list: &[u32], k: usize, path: u32, x: u32, y: u32) -> usize
-    requires { k < count list.now }
-    ensures { result ≡ hit_at (is_point path x y) 4 list.now k }
-{
-    let q = word_in(list, k, 0);
-    let a = word_in(list, k, 4);
-    let b = word_in(list, k, 5);
+    let a = word_in(list, k, AT);
+    let b = word_in(list, k, AT + 1);
     one(is_point(path, x, y, q, a, b))
 }
 
@@ -101,22 +118,19 @@ pub struct Counts {
     pub ends1: usize,
 }
 
-// The points of keys x and y, and z and w. Both are counted in one pass, without a branch in it, which is what takes the time of a check.
-pub fn count_both(list: &[u32], path: u32, x: u32, y: u32, z: u32, w: u32) -> Counts
-    ensures { result ≡ counts_of list.now path x y z w }
+// The two points of a line by its keys. Both are counted in one pass, without a branch in it, which is what takes the time of a check.
+pub fn count_both(list: &[u32], path: u32, line: Line) -> Counts
+    ensures { result ≡ counts_of list.now path line.x line.y line.z line.w }
 {
-    let n = list.len() / 6;
     let mut starts0: usize = 0;
     let mut ends0: usize = 0;
     let mut starts1: usize = 0;
     let mut ends1: usize = 0;
-    let mut k: usize = 0;
-    while k < n {
-        starts0 += start_is(list, k, path, x, y);
-        ends0 += end_is(list, k, path, x, y);
-        starts1 += start_is(list, k, path, z, w);
-        ends1 += end_is(list, k, path, z, w);
-        k += 1;
+    for k in 0..list.len() / 6 {
+        starts0 += hit::<2>(list, k, path, line.x, line.y);
+        ends0 += hit::<4>(list, k, path, line.x, line.y);
+        starts1 += hit::<2>(list, k, path, line.z, line.w);
+        ends1 += hit::<4>(list, k, path, line.z, line.w);
     }
     Counts {
         starts0,

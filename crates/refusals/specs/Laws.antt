@@ -1,20 +1,20 @@
 -- A number names one refusal, and with 5 the end tells which, so what is told determines what was read. Assumes nothing.
-use Rattle.std.specs.Prelude.{ℕ, zero, suc, ◌≡◌, refl}
+use Rattle.std.specs.Prelude.{ℕ, zero, suc, ◌≡◌, Bool, true, false, cond, refl, Ok, Err, is_ok}
 use Rattle.std.proofs.Common.{arith}
 use Rattle.laws.specs.Only.{Only, determined}
-use Rattle.refusals.specs.Refusals.{number_of, end_of}
+use Rattle.refusals.specs.Refusals.{number_of, end_of, Read}
 use Rattle.refusals.specs.declared.LineEnd.{LineEnd}
 use Rattle.refusals.specs.declared.LineEnd.TheVariants.{Start, End}
 use Rattle.refusals.specs.declared.Refusal.{Refusal}
 use Rattle.refusals.specs.declared.Refusal.TheVariants.{BadBase, Outside, NoPrefix, NoBox, NotNumber, NoRoom, NoJoin, NoCount, BadTransform}
 
-line_end : ℕ → LineEnd
+abbrev pub line_end : ℕ → LineEnd
 line_end zero = Start
 line_end (suc zero) = Start
 line_end (suc (suc n)) = End
 
 -- the refusal of a number, and of an end
-pub named : ℕ → ℕ → Refusal
+unfoldable pub named : ℕ → ℕ → Refusal
 named zero e = BadBase
 named (suc zero) e = BadBase
 named (suc (suc zero)) e = Outside
@@ -27,7 +27,7 @@ named (suc (suc (suc (suc (suc (suc (suc (suc zero)))))))) e = NoCount
 named (suc (suc (suc (suc (suc (suc (suc (suc (suc n))))))))) e = BadTransform
 
 pub number_names : (why : Refusal) → named (number_of why) (end_of why) ≡ why
-unfolding named line_end number_of end_of
+unfolding named number_of end_of
 number_names BadBase = refl
 number_names Outside = refl
 number_names NoPrefix = refl
@@ -56,3 +56,13 @@ number_only why = determined (number_of why)
 
 pub end_only : (why : Refusal) → Only (λ r. r ≡ end_of why)
 end_only why = determined (end_of why)
+
+-- a value that is found only where a test holds
+pub found_where : {A : Type 0} (t : Bool) (a b : A) (why : Refusal) → ◌≡◌ {A = Read A} (cond t (Ok a) (Err why)) (Ok b) → (t ≡ true) × (a ≡ b)
+found_where true a b why h = (refl, cc)
+found_where false a b why h = let z : ◌≡◌ {A = ℕ} 0 1 = cc in absurd (omega arith)
+
+-- what was found
+pub found_is : {A : Type 0} (r : Read A) → is_ok r ≡ true → (a : A) × (r ≡ Ok a)
+found_is (Ok a) h = (a, refl)
+found_is (Err why) h = let z : ◌≡◌ {A = ℕ} 0 1 = cc in absurd (omega arith)

@@ -1,5 +1,5 @@
 -- The refusals with the scope paper's numbers, and what a read says in numbers. Definitions only.
-use Rattle.std.specs.Prelude.{ℕ, List, [], ◌∷◌}
+use Rattle.std.specs.Prelude.{ℕ, List, [], ◌∷◌, Result, Ok, Err}
 use Rattle.refusals.specs.declared.LineEnd.TheVariants.{Start, End}
 use Rattle.refusals.specs.declared.Refusal.{Refusal}
 use Rattle.refusals.specs.declared.Refusal.TheVariants.{BadBase, Outside, NoPrefix, NoBox, NotNumber, NoRoom, NoJoin, NoCount, BadTransform}
@@ -30,9 +30,8 @@ end_of NoCount = 0
 end_of BadTransform = 0
 
 -- what is read: what was found, or why there is nothing
-pub data Read (A : Type 0) : Type 0 where
-  found : A → Read A
-  refused : Refusal → Read A
+abbrev pub Read : Type 0 → Type 0
+Read A = Result A Refusal
 
 -- an answer's number, the end of the line that it stopped at, and its values
 pub record Told (A : Type 0) : Type 0 where
@@ -41,5 +40,5 @@ pub record Told (A : Type 0) : Type 0 where
   pub values : List A
 
 unfoldable pub told : {A : Type 0} → Read A → Told A
-told (found a) = record { number = 0; end = 0; values = a ∷ [] }
-told (refused why) = record { number = number_of why; end = end_of why; values = [] }
+told (Ok a) = record { number = 0; end = 0; values = a ∷ [] }
+told (Err why) = record { number = number_of why; end = end_of why; values = [] }

@@ -57,18 +57,9 @@ impl Refusal {
         ensures { result ≡ end_of self }
     {
         match self {
-            Refusal::BadBase => 0,
-            Refusal::Outside => 0,
-            Refusal::NoPrefix => 0,
-            Refusal::NoBox => 0,
-            Refusal::NotNumber(at) => match at {
-                LineEnd::Start => 1,
-                LineEnd::End => 2,
-            },
-            Refusal::NoRoom => 0,
-            Refusal::NoJoin => 0,
-            Refusal::NoCount => 0,
-            Refusal::BadTransform => 0,
+            Refusal::NotNumber(LineEnd::Start) => 1,
+            Refusal::NotNumber(LineEnd::End) => 2,
+            _ => 0,
         }
     }
 }

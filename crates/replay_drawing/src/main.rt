@@ -8,21 +8,21 @@ use curve::flatten_euler;
 use drawing::arc::flatten_arc;
 use drawing::cap::draw_cap;
 use drawing::join::draw_join;
-use drawing::line::{Ink, Nib, Reach};
+use drawing::line::{Nib, Reach, Stopped};
 use lists::word;
 use spiral::util::Vec2;
 use std::io;
 
-fn float(line: &[u8; 351], k: usize) -> f32 {
+fn float(line: &[u8], k: usize) -> f32 {
     maths::float_of(word(line, k))
 }
 
 // The angle of an arc or the offset of a curve.
-fn number(line: &[u8; 351]) -> f32 {
+fn number(line: &[u8]) -> f32 {
     float(line, 5)
 }
 
-fn transform(line: &[u8; 351]) -> [f32; 6] {
+fn transform(line: &[u8]) -> [f32; 6] {
     [
         float(line, 6),
         float(line, 7),
@@ -33,11 +33,11 @@ fn transform(line: &[u8; 351]) -> [f32; 6] {
     ]
 }
 
-fn point(line: &[u8; 351], x: usize, y: usize) -> Vec2 {
+fn point(line: &[u8], x: usize, y: usize) -> Vec2 {
     Vec2::new(float(line, x), float(line, y))
 }
 
-fn points(line: &[u8; 351]) -> [Vec2; 6] {
+fn points(line: &[u8]) -> [Vec2; 6] {
     [
         point(line, 12, 13),
         point(line, 14, 15),
@@ -48,16 +48,14 @@ fn points(line: &[u8; 351]) -> [Vec2; 6] {
     ]
 }
 
-fn arc(lines: &mut [u32], ink: Ink, line: &[u8; 351]) -> Ink {
+fn arc(lines: &mut [u32], nib: Nib, line: &[u8]) -> Result<Nib, Stopped> {
     let points = points(line);
     let begin = points[0];
     let end = points[1];
     let center = points[2];
-    let path = word(line, 3);
     flatten_arc(
         lines,
-        ink,
-        path,
+        nib,
         begin,
         end,
         center,
@@ -66,17 +64,15 @@ fn arc(lines: &mut [u32], ink: Ink, line: &[u8; 351]) -> Ink {
     )
 }
 
-fn cap(lines: &mut [u32], ink: Ink, line: &[u8; 351]) -> Ink {
+fn cap(lines: &mut [u32], nib: Nib, line: &[u8]) -> Result<Nib, Stopped> {
     let points = points(line);
     let at = points[0];
     let cap0 = points[1];
     let cap1 = points[2];
     let tangent = points[3];
-    let path = word(line, 3);
     draw_cap(
         lines,
-        ink,
-        path,
+        nib,
         word(line, 4),
         at,
         cap0,
@@ -86,19 +82,17 @@ fn cap(lines: &mut [u32], ink: Ink, line: &[u8; 351]) -> Ink {
     )
 }
 
-fn join(lines: &mut [u32], ink: Ink, line: &[u8; 351]) -> Ink {
+fn join(lines: &mut [u32], nib: Nib, line: &[u8]) -> Result<Nib, Stopped> {
     let points = points(line);
     let p0 = points[0];
     let tan_prev = points[1];
     let tan_next = points[2];
     let n_prev = points[3];
     let n_next = points[4];
-    let path = word(line, 3);
     let flags = word(line, 4);
     draw_join(
         lines,
-        ink,
-        path,
+        nib,
         flags,
         p0,
         tan_prev,
@@ -109,37 +103,28 @@ fn join(lines: &mut [u32], ink: Ink, line: &[u8; 351]) -> Ink {
     )
 }
 
-fn euler(lines: &mut [u32], ink: Ink, line: &[u8; 351]) -> Ink {
+fn euler(lines: &mut [u32], nib: Nib, line: &[u8]) -> Result<Nib, Stopped> {
     let points = points(line);
     let cubic = [points[0], points[1], points[2], points[3]];
     let start = points[4];
     let end = points[5];
-    let path = word(line, 3);
-    flatten_euler(
-        lines,
-        ink,
-        path,
-        cubic,
-        transform(line),
-        number(line),
-        start,
-        end,
-    )
+    flatten_euler(lines, nib, cubic, transform(line), number(line), start, end)
 }
 
 // Draws behind as many lines as the vector says. The Rust tells no tag: 0 stands for it.
-fn draw(lines: &mut [u32], line: &[u8; 351]) -> Ink {
+fn draw(lines: &mut [u32], line: &[u8]) -> Result<Nib, Stopped> {
     let reach = Reach::empty();
-    let ink = Ink::Flows(Nib {
+    let nib = Nib {
         count: word(line, 2),
         tag: 0,
+        path: word(line, 3),
         reach,
-    });
+    };
     match word(line, 0) {
-        1 => arc(lines, ink, line),
-        2 => cap(lines, ink, line),
-        3 => join(lines, ink, line),
-        _ => euler(lines, ink, line),
+        1 => arc(lines, nib, line),
+        2 => cap(lines, nib, line),
+        3 => join(lines, nib, line),
+        _ => euler(lines, nib, line),
     }
 }
 

@@ -4,7 +4,8 @@ ghost use Rattle.std.specs.Prelude.{◌≤◌};
 
 use crate::{CallTold, Head, ScanTold, boxes_of, patch, put_boxes, read_head, read_words};
 use flatten::call::{Told, flatten_owned};
-use scene::tags::{Scanned, scan};
+use refusals::Refusal;
+use scene::tags::scan;
 use std::io;
 use std::io::Read;
 
@@ -14,8 +15,6 @@ enum Replayed {
     Differs,
     // The list ends inside the scene, or the scene is larger than the arrays.
     Broken,
-    // No scene is left.
-    End,
 }
 
 // The sizes of the arrays that are lent from.
@@ -27,10 +26,11 @@ const BOXES: usize = 64;
 
 const LINES: usize = 9216;
 
-fn same_count(told: ScanTold, r: Scanned) -> bool {
+// In the list, which the Rust's runs wrote, 0 stands for no refusal.
+fn same_count(told: ScanTold, r: Result<u64, Refusal>) -> bool {
     match r {
-        Scanned::Filled(count) => (told.number == 0) & (told.count as u64 == count),
-        Scanned::PastEnd => (told.number == 1) & (told.count == 0),
+        Ok(count) => (told.number == 0) & (told.count as u64 == count),
+        Err(why) => (told.number == why.number()) & (told.count == 0),
     }
 }
 
@@ -61,10 +61,9 @@ fn same_call(
     let lent = boxes_of(box_words);
     lists::fill(lines, lists::LENT);
     let done = flatten_owned(head.layout, scene, prefixes, lent, head.boxes, lines);
-    let answer = done.answer;
     let left = done.boxes;
     put_boxes(box_words, left);
-    same_answer(told, answer.told())
+    same_answer(told, Told::from(done.answer))
         & (lists::hash(lines) == told.lines)
         & (lists::hash(box_words) == told.boxes)
 }
@@ -103,16 +102,7 @@ fn replay<R: Read>(input: &mut R, head: Head) -> io::Result<Replayed> {
     let n_prefixes = head.prefixes;
     let n_boxes = head.boxes;
     let n_lines = head.lines;
-    if n_scene > SCENE {
-        return Ok(Replayed::Broken);
-    }
-    if n_prefixes > PREFIXES {
-        return Ok(Replayed::Broken);
-    }
-    if n_boxes > BOXES {
-        return Ok(Replayed::Broken);
-    }
-    if n_lines > LINES {
+    if n_scene > SCENE || n_prefixes > PREFIXES || n_boxes > BOXES || n_lines > LINES {
         return Ok(Replayed::Broken);
     }
     let mut scene = [0u32; SCENE];
@@ -143,7 +133,7 @@ fn write_broken(rt: &impl Print) -> io::Result<()> {
 // A scene with another answer is found in the list by its head.
 fn write_other(rt: &impl Print, r: Replayed, line: &[u8; 162]) -> io::Result<()> {
     match r {
-        Replayed::Same | Replayed::End => Ok(()),
+        Replayed::Same => Ok(()),
         Replayed::Differs => rt.write_all(line),
         Replayed::Broken => {
             rt.write_all(line)?;
@@ -152,44 +142,33 @@ fn write_other(rt: &impl Print, r: Replayed, line: &[u8; 162]) -> io::Result<()>
     }
 }
 
-fn replay_next<R: Read>(rt: &impl Print, input: &mut R) -> io::Result<Replayed> {
+// None at the end of the list.
+fn replay_next<R: Read>(rt: &impl Print, input: &mut R) -> io::Result<Option<Replayed>> {
     let mut line = [0u8; 162];
     let n = lists::read_full(input, &mut line)?;
     if n == 0 {
-        return Ok(Replayed::End);
+        return Ok(None);
     }
     if n < HEAD {
         write_broken(rt)?;
-        return Ok(Replayed::Broken);
+        return Ok(Some(Replayed::Broken));
     }
     let r = replay(input, read_head(&line))?;
     write_other(rt, r, &line)?;
-    Ok(r)
+    Ok(Some(r))
 }
 
-fn differs(r: Replayed) -> u64
-    ensures { result ≤ 1 }
-{
-    match r {
-        Replayed::Same | Replayed::End => 0,
-        Replayed::Differs | Replayed::Broken => 1,
-    }
-}
-
+// Behind a scene that the list ends in nothing more is read.
 pub fn replay_all(rt: &(impl Input + Print)) -> io::Result<()> {
     let mut input = rt.reader();
-    let mut count: u64 = 0;
     let mut differ: u64 = 0;
-    while count < MOST {
-        let r = replay_next(rt, &mut input)?;
-        if let Replayed::End = r {
-            break;
-        }
-        differ += differs(r);
-        count += 1;
-        if let Replayed::Broken = r {
-            break;
+    for count in 0..MOST {
+        match replay_next(rt, &mut input)? {
+            None => return lists::report_scenes(rt, count, differ),
+            Some(Replayed::Same) => {}
+            Some(Replayed::Differs) => differ += 1,
+            Some(Replayed::Broken) => return lists::report_scenes(rt, count + 1, differ + 1),
         }
     }
-    lists::report_scenes(rt, count, differ)
+    lists::report_scenes(rt, MOST, differ)
 }

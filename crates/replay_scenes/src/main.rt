@@ -96,35 +96,32 @@ fn read_head(line: &[u8; 162]) -> Head {
 // A word of the list and the byte behind it.
 #[derive(Clone, Copy)]
 struct Piece {
-    found: bool,
     word: u32,
     behind: u8,
 }
 
-fn read_piece<R: Read>(input: &mut R) -> io::Result<Piece> {
+// The next one, where the list has one more.
+fn read_piece<R: Read>(input: &mut R) -> io::Result<Option<Piece>> {
     let mut text = [0u8; 9];
     let n = lists::read_full(input, &mut text)?;
-    Ok(Piece {
-        found: n == 9,
+    if n < 9 {
+        return Ok(None);
+    }
+    Ok(Some(Piece {
         word: lists::word(&text, 0),
         behind: text[8],
-    })
-}
-
-fn wide(w: u32) -> usize {
-    w as usize
+    }))
 }
 
 // How often a word stands: never where the list has ended.
 fn times<R: Read>(input: &mut R, p: Piece) -> io::Result<usize> {
-    if !p.found {
-        return Ok(0);
-    }
     if p.behind != b'*' {
         return Ok(1);
     }
-    let next = read_piece(input)?;
-    Ok(if next.found { wide(next.word) } else { 0 })
+    match read_piece(input)? {
+        Some(next) => Ok(next.word as usize),
+        None => Ok(0),
+    }
 }
 
 fn none_above(most: usize, n: usize) -> usize
@@ -136,8 +133,11 @@ fn none_above(most: usize, n: usize) -> usize
 // Puts the next words of the list there. Not if it has fewer, or a run that goes on behind.
 fn read_words<R: Read>(input: &mut R, words: &mut [u32]) -> io::Result<bool> {
     let mut at: usize = 0;
+    // No range: a piece is a run of any length.
     while at < words.len() {
-        let piece = read_piece(input)?;
+        let Some(piece) = read_piece(input)? else {
+            return Ok(false);
+        };
         let n = none_above(words.len() - at, times(input, piece)?);
         if n == 0 {
             return Ok(false);
@@ -151,39 +151,21 @@ fn read_words<R: Read>(input: &mut R, words: &mut [u32]) -> io::Result<bool> {
 
 // Changes words, each by its place and the word of the list behind that.
 fn patch<R: Read>(input: &mut R, words: &mut [u32], patches: usize) -> io::Result<bool> {
-    let mut k: usize = 0;
-    while k < patches {
+    for _ in 0..patches {
         let mut pair = [0u32; 2];
         if !read_words(input, &mut pair)? {
             return Ok(false);
         }
-        let at = wide(pair[0]);
+        let at = pair[0] as usize;
         if words.len() <= at {
             return Ok(false);
         }
         words[at] = pair[1];
-        k += 1;
     }
     Ok(true)
 }
 
 // ---- boxes as words of the list, six to a box
-
-// The number with these bits.
-fn signed(w: u32) -> i32 {
-    if w < 0x8000_0000 {
-        return w as i32;
-    }
-    !((!w) as i32)
-}
-
-// The bits of the number.
-fn unsigned(x: i32) -> u32 {
-    if x < 0 {
-        return !((!x) as u32);
-    }
-    x as u32
-}
 
 // The box k, where there are words for it.
 fn box_of(words: &[u32], k: usize) -> PathBox {
@@ -191,10 +173,10 @@ fn box_of(words: &[u32], k: usize) -> PathBox {
         return PathBox::fresh();
     }
     PathBox {
-        x0: signed(words[k * 6]),
-        y0: signed(words[k * 6 + 1]),
-        x1: signed(words[k * 6 + 2]),
-        y1: signed(words[k * 6 + 3]),
+        x0: words[k * 6].cast_signed(),
+        y0: words[k * 6 + 1].cast_signed(),
+        x1: words[k * 6 + 2].cast_signed(),
+        y1: words[k * 6 + 3].cast_signed(),
         draw_flags: words[k * 6 + 4],
         trans_ix: words[k * 6 + 5],
     }
@@ -202,10 +184,8 @@ fn box_of(words: &[u32], k: usize) -> PathBox {
 
 fn boxes_of(words: &[u32]) -> [PathBox; 64] {
     let mut boxes = [PathBox::fresh(); 64];
-    let mut k: usize = 0;
-    while k < 64 {
+    for k in 0..64 {
         boxes[k] = box_of(words, k);
-        k += 1;
     }
     boxes
 }
@@ -213,10 +193,10 @@ fn boxes_of(words: &[u32]) -> [PathBox; 64] {
 // The word i of a box's six.
 fn word_of(b: PathBox, i: usize) -> u32 {
     match i {
-        0 => unsigned(b.x0),
-        1 => unsigned(b.y0),
-        2 => unsigned(b.x1),
-        3 => unsigned(b.y1),
+        0 => b.x0.cast_unsigned(),
+        1 => b.y0.cast_unsigned(),
+        2 => b.x1.cast_unsigned(),
+        3 => b.y1.cast_unsigned(),
         4 => b.draw_flags,
         _ => b.trans_ix,
     }
@@ -230,10 +210,8 @@ fn put(words: &mut [u32], i: usize, w: u32) {
 
 // As many boxes as there are words for.
 fn put_boxes(words: &mut [u32], boxes: [PathBox; 64]) {
-    let mut i: usize = 0;
-    while i < 384 {
+    for i in 0..384 {
         put(words, i, word_of(boxes[i / 6], i % 6));
-        i += 1;
     }
 }
 

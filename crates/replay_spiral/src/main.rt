@@ -65,11 +65,11 @@ fn of_points(call: u32, v: [f32; 10]) -> Answer {
     let p = Vec2::new(v[0], v[1]);
     let q = Vec2::new(v[2], v[3]);
     match call {
-        1 => point(p.add(q)),
-        2 => point(p.sub(q)),
-        3 => point(p.mul(v[2])),
-        4 => point(p.div(v[2])),
-        5 => point(p.neg()),
+        1 => point(p + q),
+        2 => point(p - q),
+        3 => point(p * v[2]),
+        4 => point(p / v[2]),
+        5 => point(-p),
         6 => number(p.dot(q)),
         7 => number(p.length()),
         8 => number(p.length_squared()),
@@ -77,7 +77,7 @@ fn of_points(call: u32, v: [f32; 10]) -> Answer {
         10 => point(p.normalize()),
         11 => number(p.atan2()),
         12 => truth(p.is_nan()),
-        _ => truth(p.eq(q)),
+        _ => truth(p == q),
     }
 }
 

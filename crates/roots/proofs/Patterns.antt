@@ -1,8 +1,8 @@
 -- What a pattern stands for, as a magnitude in units of 2 ^ -149 and a sign; and the roots of values given so. Assumes nothing.
-use Rattle.std.proofs.Common.{◌≡◌, ℕ, zero, suc, ◌+◌, ◌-◌, ◌*◌, ◌/◌, ◌%◌, ◌^◌, ◌<◌, ◌≤◌, Bool, true, false, cond, not, T, eqb, ltb, leb, sym, refl, ap, ◌∙◌, subst, true≢false, lt_irrefl, zero-lt-suc, add_comm, mul-pos, zero-add, zero-mul, mul-one, arith, leb→le, nltb→le, pow_pos, le-ltb, lt-ltb, ne_eqb}
+use Rattle.std.proofs.Common.{◌≡◌, ℕ, zero, suc, ◌+◌, ◌-◌, ◌*◌, ◌/◌, ◌%◌, ◌^◌, ◌<◌, ◌≤◌, Bool, true, false, cond, not, T, eqb, ltb, leb, sym, refl, ap, ◌∙◌, subst, lt_irrefl, zero-lt-suc, add_comm, mul-pos, zero-add, zero-mul, mul-one, arith, leb→le, nltb→le, pow_pos, le-ltb, lt-ltb, ne_eqb}
 use lib.Dec.{nleb→lt}
 use lib.Ieee.{Float, nan, inf, fin, binary32, binary64, up, down, odd, of_bits, to_bits, of_fields, fits, is_nan, nan_bits, ne}
-use lib.Ieee.Compare.{differs_from_itself, nan_differs}
+use lib.Ieee.Compare.{differs_from_itself}
 use lib.Ieee.Exact.{HasValue, odd_sign}
 use lib.Ieee.Fits.{down_pos, up_pos}
 use lib.Ieee.Bits.{of_bits-to_bits, to_bits-lt, nan_bits_is, nan_bits_above}
@@ -126,11 +126,8 @@ zero_stays (fin t (suc m) e) s h f k = absurd (zero_mag m e h.1)
 pub is_nan_lem : (x : Float) → ne x x ≡ true → x ≡ nan
 is_nan_lem x e = differs_from_itself x (subst T (sym e) tt)
 
-pub is_number : (x : Float) → ne x x ≡ false → T (not (is_nan x))
-unfolding is_nan
-is_number nan e = absurd (true≢false (sym nan_differs ∙ e))
-is_number (inf s) e = tt
-is_number (fin s m d) e = tt
+pub is_number : (x : Float) → is_nan x ≡ false → T (not (is_nan x))
+is_number x e = subst (λ (t : Bool). T (not t)) (sym e) tt
 
 pub no_nan_pattern : (n : ℕ) → n % 2 ^ 31 ≤ 0x7f80_0000 → T (not (nan_bits binary32 n))
 no_nan_pattern n h = subst (λ (t : Bool). T (not t)) (sym (nan_bits_above binary32 n ∙ le-ltb 0x7f80_0000 (n % 2 ^ 31) h)) tt

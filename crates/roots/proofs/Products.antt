@@ -12,9 +12,6 @@ square_is q = at (q / 65536) (q % 65536) (div-add-mod' q 65536)
     at : (h l : ℕ) → h * 65536 + l ≡ q → h * (q + l) * 65536 + l * l ≡ q * q
     at h l e = omega (arith, ap (λ (x : ℕ). x * q) e, ap (λ (x : ℕ). l * x) e)
 
-pub low_square : (q : ℕ) → q % 65536 * (q % 65536) ≤ 4294836225
-low_square q = mul-le-mul {n₂ = 65535} {m₂ = 65535} (omega arith) (omega arith)
-
 -- ---- `product`: n = a * 2 ^ 16 + b, q = h * 2 ^ 16 + l
 pub product_is : (n q : ℕ) → n / 65536 * (q / 65536) * 4294967296 + (n / 65536 * (q % 65536) + n % 65536 * (q / 65536)) * 65536 + n % 65536 * (q % 65536) ≡ n * q
 product_is n q = at (n / 65536) (n % 65536) (q / 65536) (q % 65536) (div-add-mod' n 65536) (div-add-mod' q 65536)

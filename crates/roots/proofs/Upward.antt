@@ -2,13 +2,14 @@
 use Rattle.std.proofs.Common.{◌≡◌, ℕ, zero, suc, ◌*◌, ◌%◌, ◌^◌, ◌<◌, ◌≤◌, Bool, true, false, T, ℤ, sym, refl, ap, ◌∙◌, subst, true≢false, arith, le-leb}
 use native.Mathlib.Decide.{dec_lt}
 use borrow.Author.Tests.{lt-leb}
-use lib.Ieee.{Float, nan, inf, fin, binary32, of_bits, to_bits, div, fits, ne}
+use lib.Ieee.{Float, nan, inf, fin, binary32, of_bits, to_bits, fits, is_nan}
 use Rattle.laws.specs.Compare.{under_zero}
 use Rattle.roots.specs.Root.{mag, nearest_root, sqrt_of, two_thirds_of}
 use Rattle.roots.specs.Rules.{sqrt_nan, sqrt_below_zero, sqrt_infinity, two_thirds_nan, two_thirds_below_zero, two_thirds_infinity}
 use Rattle.roots.specs.Parts.{mag_bits}
 use Rattle.roots.specs.Laws.{mag_is}
-use Rattle.roots.proofs.Patterns.{Worth, worth, infinite, no_zero, mag_pos, is_nan_lem, is_number}
+use Rattle.roots.proofs.Patterns.{Worth, worth, infinite, no_zero, mag_pos, is_number}
+use Rattle.laws.specs.Nan.{nan_is}
 
 pub record Upward (f : Float → Float) (g : ℕ → Float) : Type 0 where
   pub of_nan : f nan ≡ nan
@@ -30,9 +31,9 @@ sqrt_is = record { of_nan = sqrt_nan; below_zero = sqrt_below_zero; infinity = s
 pub two_thirds_is : Upward two_thirds_of (λ a. nearest_root false 3 (a * a * 2 ^ 149))
 two_thirds_is = record { of_nan = two_thirds_nan; below_zero = two_thirds_below_zero; infinity = two_thirds_infinity; above = two_thirds_above }
 
-pub zero_over_zero : div binary32 (of_bits binary32 0) (of_bits binary32 0) ≡ nan
-unfolding div of_bits
-zero_over_zero = refl
+pub nan_const : of_bits binary32 0x7fc0_0000 ≡ nan
+unfolding of_bits
+nan_const = refl
 
 under : (x : Float) (a : ℕ) → 0 < a → Worth x true a → T (under_zero x)
 under nan a A h = absurd h
@@ -42,8 +43,8 @@ under (fin true (suc m) e) a A h = tt
 under (fin false (suc m) e) a A h = absurd (true≢false (sym h.0))
 
 module _ (f : Float → Float) (g : ℕ → Float) (U : Upward f g) where
-  pub keeps_nan : (x : Float) → ne x x ≡ true → x ≡ f x
-  keeps_nan x e = let z = is_nan_lem x e in z ∙ sym U.of_nan ∙ ap f (sym z)
+  pub keeps_nan : (x : Float) → is_nan x ≡ true → x ≡ f x
+  keeps_nan x e = let z = nan_is x (subst T (sym e) tt) in z ∙ sym U.of_nan ∙ ap f (sym z)
 
   over : (x : Float) (a : ℕ) → 0 < a → Worth x false a → f x ≡ g a
   over nan a A h = absurd h
@@ -56,7 +57,7 @@ module _ (f : Float → Float) (g : ℕ → Float) (U : Upward f g) where
     abbrev b : ℕ
     b = to_bits binary32 x
 
-    pub negative : ne x x ≡ false → (b % 2 ^ 31 ≡ 0 → ⊥) → 2 ^ 31 ≤ b → f x ≡ nan
+    pub negative : is_nan x ≡ false → (b % 2 ^ 31 ≡ 0 → ⊥) → 2 ^ 31 ≤ b → f x ≡ nan
     negative N z h = U.below_zero x (elim (dec_lt (b % 2 ^ 31) 0x7f80_0000) [
       | yes l ↦ under x _ (mag_pos (b % 2 ^ 31) (omega arith)) (subst (λ (s : Bool). Worth x s (mag_bits (b % 2 ^ 31))) (le-leb (2 ^ 31) b h) (worth x F l))
       | no n ↦ subst (λ (v : Float). T (under_zero v)) (sym (infinite x F (is_number x N) (omega arith) ∙ ap inf (le-leb (2 ^ 31) b h))) tt
@@ -65,5 +66,5 @@ module _ (f : Float → Float) (g : ℕ → Float) (U : Upward f g) where
     pub positive : (b % 2 ^ 31 ≡ 0 → ⊥) → b < 2 ^ 31 → b % 2 ^ 31 < 0x7f80_0000 → f x ≡ g (mag_bits (b % 2 ^ 31))
     positive z h l = over x _ (mag_pos (b % 2 ^ 31) (omega arith)) (subst (λ (s : Bool). Worth x s (mag_bits (b % 2 ^ 31))) (lt-leb (2 ^ 31) b h) (worth x F l))
 
-    pub infinity_stays : ne x x ≡ false → b < 2 ^ 31 → 0x7f80_0000 ≤ b % 2 ^ 31 → x ≡ f x
+    pub infinity_stays : is_nan x ≡ false → b < 2 ^ 31 → 0x7f80_0000 ≤ b % 2 ^ 31 → x ≡ f x
     infinity_stays N h l = let z = infinite x F (is_number x N) l ∙ ap inf (lt-leb (2 ^ 31) b h) in z ∙ sym U.infinity ∙ ap f (sym z)

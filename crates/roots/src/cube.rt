@@ -9,40 +9,20 @@ use crate::format::unpack;
 use crate::guess::{cbrt_guess, two_thirds_guess};
 use crate::narrow::{by_digits, is_near, square_times};
 
-// The 24 digits nearest to the cube root of t * 2 ^ 22, from a candidate.
+// The 24 digits nearest to the cube root of t * 2 ^ 22: a candidate or one of its neighbours where these are surely it, else digit by digit.
 fn settled(q: u32, t: u64) -> u32
     requires { (2 ^ 23 ≤ q) × (q < 2 ^ 24) × (0 < t) × (t < 2 ^ 50) }
     ensures { CubeNear t result }
 {
     if is_near(q, t) {
-        return q;
+        q
+    } else if is_near(q - 1, t) {
+        q - 1
+    } else if q < 0xff_ffff && is_near(q + 1, t) {
+        q + 1
+    } else {
+        by_digits(t)
     }
-    beside(q, t)
-}
-
-// The same, where the candidate itself is not surely the nearest.
-fn beside(q: u32, t: u64) -> u32
-    requires { (2 ^ 23 ≤ q) × (q < 2 ^ 24) × (0 < t) × (t < 2 ^ 50) }
-    ensures { CubeNear t result }
-{
-    if is_near(q - 1, t) {
-        return q - 1;
-    }
-    if q < 0xff_ffff {
-        return above(q + 1, t);
-    }
-    by_digits(t)
-}
-
-// The same, with the upper neighbour as the last candidate.
-fn above(q: u32, t: u64) -> u32
-    requires { (q < 2 ^ 24) × (0 < t) × (t < 2 ^ 50) }
-    ensures { CubeNear t result }
-{
-    if is_near(q, t) {
-        return q;
-    }
-    by_digits(t)
 }
 
 // n / 3, without a division: 683 / 2048 is so little above a third that nothing is lost below 2048.

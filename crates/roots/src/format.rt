@@ -8,29 +8,20 @@ ghost use Rattle.roots.specs.Parts.{Parted, Fielded, Scaled, packed};
 // A number m * 2 ^ t.
 #[derive(Clone, Copy)]
 pub(crate) struct Parts {
-    pub(crate) m: u64,
-    pub(crate) t: u64,
+    pub(crate) m: u32,
+    pub(crate) t: u32,
 }
 
 // The pattern of x without its sign; a NaN's is above the infinity's.
 pub(crate) fn pattern(x: f32) -> u32
     ensures { result ≡ to_bits binary32 x % 2 ^ 31 }
 {
-    if x != x {
-        return 0x7fc0_0000;
-    }
-    f32::to_bits(x) % 0x8000_0000
+    std::num::f32_to_bits_with_nan(x) % 0x8000_0000
 }
 
-// A number m * 2 ^ t, with all 24 digits in m.
-#[derive(Clone, Copy)]
-pub(crate) struct Full {
-    pub(crate) m: u32,
-    pub(crate) t: u32,
-}
-
-// n * 2 ^ 149 with all 24 digits in m: a subnormal's digits moved up.
-fn scale(n: u32) -> Full
+// n * 2 ^ 149 with all 24 digits in m: a subnormal's digits moved up, counted place by place, since
+// `leading_zeros` is a routine on some of the processors that `cube` is for (tools/narrow-test).
+fn scale(n: u32) -> Parts
     requires { (0 < n) × (n < 2 ^ 23) }
     ensures { Scaled (n * 2 ^ 149) result.m result.t }
 {
@@ -40,11 +31,11 @@ fn scale(n: u32) -> Full
         m = m * 2;
         t = t - 1;
     }
-    Full { m, t }
+    Parts { m, t }
 }
 
-// The finite f32 above zero with the pattern b, in units of 2 ^ -298.
-pub(crate) fn unpack(b: u32) -> Full
+// The finite f32 above zero with the pattern b, in units of 2 ^ -298: all 24 digits are in m.
+pub(crate) fn unpack(b: u32) -> Parts
     requires { (0 < b) × (b < 0x7f80_0000) }
     ensures { Parted b result.m result.t }
 {
@@ -53,14 +44,14 @@ pub(crate) fn unpack(b: u32) -> Full
     if x == 0 {
         scale(f)
     } else {
-        Full {
+        Parts {
             m: f + 0x80_0000,
             t: x + 148,
         }
     }
 }
 
-// The finite f32 with the pattern b, in units of 2 ^ -149: a subnormal keeps its few digits.
+// The finite f32 with the pattern b, in units of 2 ^ -149: a subnormal keeps its few digits, which `unpack` moves up.
 pub(crate) fn fields(b: u32) -> Parts
     requires { b < 0x7f80_0000 }
     ensures { Fielded b result.m result.t }
@@ -68,11 +59,11 @@ pub(crate) fn fields(b: u32) -> Parts
     let x = b / 0x80_0000;
     let f = b % 0x80_0000;
     if x == 0 {
-        Parts { m: f as u64, t: 0 }
+        Parts { m: f, t: 0 }
     } else {
         Parts {
-            m: (f + 0x80_0000) as u64,
-            t: (x - 1) as u64,
+            m: f + 0x80_0000,
+            t: x - 1,
         }
     }
 }
@@ -84,35 +75,26 @@ pub(crate) struct Root {
     pub(crate) e: u64,
 }
 
-// How many binary digits of r are past its first 25: t, and m is 2 ^ t.
-fn spare(r: u64) -> Parts
+// How many binary digits of r are past its first 25: of 64 digits 39 are.
+fn spare(r: u64) -> u32
     requires { r < 2 ^ 40 }
-    ensures { (result.t ≡ size r - 25) × (result.m ≡ 2 ^ (size r - 25)) × (result.m ≤ r + 1) × (result.t ≤ r) }
+    ensures { (result ≡ size r - 25) × (result ≤ 15) }
 {
-    let mut h = 1u64;
-    let mut i = 0u64;
-    while r / h > 0x1ff_ffff {
-        h = h * 2;
-        i = i + 1;
-    }
-    Parts { m: h, t: i }
+    u32::saturating_sub(39, u64::leading_zeros(r))
 }
 
-// q or the next number, as r is to the middle m, and at the middle the even one. A remainder e puts the root above r.
-fn turn(q: u64, r: u64, m: u64, e: u64) -> u64
-    requires { q < 2 ^ 40 }
-    ensures { (result ≡ nearest q (compare (2 * r + min e 1) (2 * m))) × (result ≤ q + 1) }
+// q or the next number, as r is to the middle m, and at the middle the even one. A remainder e counts as more than r. Behind the
+// last number comes 0.
+pub fn to_nearest(q: u64, r: u64, m: u64, e: u64) -> u64
+    ensures { (result ≡ nearest q (compare (2 * r + min e 1) (2 * m)) % 2 ^ 64) × (result ≤ q + 1) }
 {
     if r < m {
-        return q;
+        q
+    } else if m < r || e > 0 {
+        q.wrapping_add(1)
+    } else {
+        q.wrapping_add(q % 2)
     }
-    if m < r {
-        return q + 1;
-    }
-    if e == 0 {
-        return q + q % 2;
-    }
-    q + 1
 }
 
 // The pattern of the f32 nearest to a root of which s has a digit more than the 24 that an f32 keeps, in units of 2 ^ (c - 150). Past the largest f32 it is
@@ -121,27 +103,17 @@ pub(crate) fn pack(s: Root, c: u64) -> u32
     requires { (s.r < 2 ^ 40) × (c ≤ 1000) }
     ensures { result ≡ packed s.r s.e c }
 {
-    let r = s.r;
-    let e = s.e;
-    let p = spare(r);
-    let h = p.m;
-    let i = p.t;
-    let q = r / (h * 2);
-    let n = turn(q, r, (q * 2 + 1) * h, e);
-    let b = (c + i) * 0x80_0000 + n;
-    if b < 0x7f80_0000 {
-        b as u32
-    } else {
-        0x7f80_0000
-    }
+    let i = spare(s.r);
+    let q = s.r >> i >> 1;
+    let n = to_nearest(q, s.r, (q * 2 + 1) << i, s.e);
+    let b = (c + i as u64) * 0x80_0000 + n;
+    b.min(0x7f80_0000) as u32
 }
 
 // The first 24 binary digits of s, rounded: a candidate. The sum is a wrapping one only so that nothing need be known of s.
 pub(crate) fn leading(s: f64) -> u64
     ensures { (2 ^ 23 ≤ result) × (result < 2 ^ 24) }
 {
-    if s != s {
-        return 0x80_0000;
-    }
-    std::num::wrapping_add_u64(f64::to_bits(s), 0x1000_0000) / 0x2000_0000 % 0x80_0000 + 0x80_0000
+    let b = std::num::f64_to_bits_with_nan(s);
+    b.wrapping_add(0x1000_0000) / 0x2000_0000 % 0x80_0000 + 0x80_0000
 }

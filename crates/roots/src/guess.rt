@@ -33,10 +33,7 @@ fn improved(h: f32, a: f32, b: f32) -> f32 {
 fn digits(v: f32) -> u32
     ensures { (2 ^ 23 ≤ result) × (result < 2 ^ 24) }
 {
-    if v != v {
-        return 0x80_0000;
-    }
-    f32::to_bits(v) % 0x80_0000 + 0x80_0000
+    std::num::f32_to_bits_with_nan(v) % 0x80_0000 + 0x80_0000
 }
 
 // 24 digits that may be those of the cube root of m * 2 ^ r.

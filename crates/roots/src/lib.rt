@@ -3,13 +3,13 @@
 // The four functions here sort out NaN, infinities, zeros and signs. The pattern of a finite number above zero, its sign left off, goes to a module:
 // `square` and `cube` for the roots of one number, `sum` for the root of a sum of squares, of which the candidate takes the numbers themselves.
 // Each makes a candidate by float arithmetic and checks it exactly, by whole squares or cubes; where it is not surely the nearest, the root is
-// taken digit by digit. `format` takes patterns apart and puts them together.
+// taken digit by digit. `format` takes patterns apart and puts them together; its rounding is public.
 // `cube` and all that it calls keep to products of 32 binary digits and to f32: `guess` makes its candidates, `narrow` checks them by parts.
 // An f32 pattern has its exponent from 2 ^ 23 on, 0x80_0000, and from 0x7f80_0000 on it is no finite number's.
 #![tactic(auto)]
 
 mod cube;
-mod format;
+pub mod format;
 mod guess;
 mod narrow;
 mod square;
@@ -21,13 +21,13 @@ ghost use Rattle.roots.specs.Root.{sqrt_of, cbrt_of, two_thirds_of, hypot_of};
 use crate::cube::{cbrt_bits, two_thirds_bits};
 use crate::format::pattern;
 use crate::square::{sqrt_bits, sqrt_digits};
-use crate::sum::{hypot_bits, hypot_near, sorted};
+use crate::sum::{hypot_bits, hypot_near};
 
 // The square root. NaN below zero; a zero keeps its sign. A number above zero that is finite and not subnormal is told by one test.
 pub fn sqrt(x: f32) -> f32
     ensures { result ≡ sqrt_of x }
 {
-    if x != x {
+    if x.is_nan() {
         return x;
     }
     let b = f32::to_bits(x);
@@ -41,7 +41,7 @@ pub fn sqrt(x: f32) -> f32
 fn sqrt_rest(x: f32) -> f32
     ensures { result ≡ sqrt_of x }
 {
-    if x != x {
+    if x.is_nan() {
         return x;
     }
     let b = f32::to_bits(x);
@@ -50,7 +50,7 @@ fn sqrt_rest(x: f32) -> f32
         return x;
     }
     if b >= 0x8000_0000 {
-        return 0.0 / 0.0;
+        return f32::NAN;
     }
     if a < 0x7f80_0000 {
         return f32::from_bits(sqrt_digits(a));
@@ -62,7 +62,7 @@ fn sqrt_rest(x: f32) -> f32
 pub fn cbrt(x: f32) -> f32
     ensures { result ≡ cbrt_of x }
 {
-    if x != x {
+    if x.is_nan() {
         return x;
     }
     let b = f32::to_bits(x);
@@ -80,7 +80,7 @@ pub fn cbrt(x: f32) -> f32
 pub fn two_thirds(x: f32) -> f32
     ensures { result ≡ two_thirds_of x }
 {
-    if x != x {
+    if x.is_nan() {
         return x;
     }
     let b = f32::to_bits(x);
@@ -89,7 +89,7 @@ pub fn two_thirds(x: f32) -> f32
         return 0.0;
     }
     if 0x8000_0000 <= b {
-        return 0.0 / 0.0;
+        return f32::NAN;
     }
     if a < 0x7f80_0000 {
         return f32::from_bits(two_thirds_bits(a));
@@ -101,11 +101,10 @@ pub fn two_thirds(x: f32) -> f32
 pub fn hypot(x: f32, y: f32) -> f32
     ensures { result ≡ hypot_of x y }
 {
-    let r = hypot_near(x, y);
-    if r == 0 {
-        return hypot_rest(x, y);
+    match hypot_near(x, y) {
+        Some(r) => f32::from_bits(r),
+        None => hypot_rest(x, y),
     }
-    f32::from_bits(r)
 }
 
 // The same with no candidate.
@@ -114,20 +113,13 @@ fn hypot_rest(x: f32, y: f32) -> f32
 {
     let a = pattern(x);
     let b = pattern(y);
-    let p = sorted(a, b);
-    let h = p.a;
-    let l = p.b;
+    let h = a.max(b);
+    let l = a.min(b);
     if h < 0x7f80_0000 {
         return f32::from_bits(hypot_bits(h, l));
     }
-    if a == 0x7f80_0000 {
-        return f32::from_bits(0x7f80_0000);
+    if a == 0x7f80_0000 || b == 0x7f80_0000 {
+        return f32::INFINITY;
     }
-    if b == 0x7f80_0000 {
-        return f32::from_bits(0x7f80_0000);
-    }
-    if a > 0x7f80_0000 {
-        return x;
-    }
-    y
+    if a > 0x7f80_0000 { x } else { y }
 }

@@ -48,10 +48,7 @@ pub(crate) fn is_near(q: u32, t: u64) -> bool
     let c = product(n, q) + (s.low * (q / 0x1_0000)) as u64;
     let u = n as u64 + (n / 2) as u64;
     let d = t << 6;
-    if c + u < d {
-        return false;
-    }
-    c + 0x1_0100 <= d + u
+    d <= c + u && c + 0x1_0100 <= d + u
 }
 
 // m² * w, by parts of 12 digits.
@@ -108,23 +105,19 @@ fn root25(t: u64) -> Digits
     requires { t < 2 ^ 50 }
     ensures { Cubed (t * 2 ^ 25) result.r result.e × (result.r < 2 ^ 25) }
 {
-    let mut r = 0u64;
-    let mut triple = 0u64;
-    let mut most = 0u64;
-    let mut e = 0u64;
+    let mut x = Digits {
+        r: 0,
+        triple: 0,
+        most: 0,
+        e: 0,
+    };
     let mut w = t << 13;
-    let mut i = 0u64;
-    while i < 25 {
+    for _ in 0..25u32 {
         let g = w >> 60;
-        let x = step3(Digits { r, triple, most, e }, g);
-        r = x.r;
-        triple = x.triple;
-        most = x.most;
-        e = x.e;
+        x = step3(x, g);
         w = (w - (g << 60)) << 3;
-        i = i + 1;
     }
-    Digits { r, triple, most, e }
+    x
 }
 
 // The 24 digits nearest to the cube root of t * 2 ^ 22, half of that of t * 2 ^ 25. That is even, so it is no cube of an odd number, and never in the middle.

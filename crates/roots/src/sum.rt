@@ -1,24 +1,18 @@
 // Roots of the sum of two squares: by a candidate that is checked, and digit by digit.
-ghost use Rattle.std.specs.Prelude.{◌≡◌, ◌+◌, ◌*◌, ◌/◌, ◌^◌, ◌<◌, ◌≤◌, ◌⊎◌, from_bits};
+ghost use Rattle.std.specs.Prelude.{◌≡◌, ◌+◌, ◌*◌, ◌/◌, ◌^◌, ◌<◌, ◌≤◌, IfSome, from_bits};
 ghost use Rattle.std.specs.Float.{binary32};
 ghost use Rattle.roots.specs.Root.{hypot_of};
-ghost use Rattle.roots.specs.Parts.{Sorted, root_bits, mag_bits};
+ghost use Rattle.roots.specs.Parts.{root_bits, mag_bits};
 
 use crate::format::{Root, fields, pack};
 use crate::square::{feed2, near};
 
 // 4 ^ d.
-fn fours(d: u64) -> u64
+fn fours(d: u32) -> u64
     requires { d ≤ 12 }
     ensures { result ≡ 4 ^ d }
 {
-    let mut k = 1u64;
-    let mut i = 0u64;
-    while i < d {
-        k = k * 4;
-        i = i + 1;
-    }
-    k
+    1 << d * 2
 }
 
 // The root of the sum of two squares, of patterns with the larger first, digit by digit: first the digits of m² + n² / 4 ^ d, then d + 1 more, those that
@@ -29,11 +23,9 @@ fn hypot_digits(a: u32, b: u32) -> u32
 {
     let p = fields(a);
     let q = fields(b);
-    let m = p.m;
-    let n = q.m;
-    let t = p.t;
-    let u = q.t;
-    let d = t - u;
+    let m = p.m as u64;
+    let n = q.m as u64;
+    let d = p.t - q.t;
     if d > 12 {
         return a;
     }
@@ -41,7 +33,7 @@ fn hypot_digits(a: u32, b: u32) -> u32
     let y = n * n;
     let s = feed2(Root { r: 0, e: 0 }, (m * m + y / k) * 4096, 25);
     let w = y % k * (0x4000_0000_0000_0000 / k);
-    pack(feed2(s, w, d + 1), u)
+    pack(feed2(s, w, d + 1), q.t as u64)
 }
 
 // The same. Two zeros come up often, in the scale of an even transform, so they are told at once.
@@ -55,49 +47,29 @@ pub(crate) fn hypot_bits(a: u32, b: u32) -> u32
     hypot_digits(a, b)
 }
 
-// The pattern of the root of x² + y² by a candidate, or 0 where none settles it. In f64 the squares are exact, so their sum is rounded once.
+// The pattern of the root of x² + y², where a candidate settles it. In f64 the squares are exact, so their sum is rounded once.
 // A zero x, and a y that is nothing beside x, its exponent 14 or more below, come up often and are told at once.
-pub(crate) fn hypot_near(x: f32, y: f32) -> u32
-    ensures { (result ≡ 0) ⊎ ((result ≤ 0x7f80_0000) × (from_bits binary32 result ≡ hypot_of x y)) }
+pub(crate) fn hypot_near(x: f32, y: f32) -> Option<u32>
+    ensures { IfSome result (λ r. (r ≤ 0x7f80_0000) × (from_bits binary32 r ≡ hypot_of x y)) }
 {
-    if x != x {
-        return 0;
-    }
-    if y != y {
-        return 0;
+    if x.is_nan() || y.is_nan() {
+        return None;
     }
     let a = f32::to_bits(x) % 0x8000_0000;
     let b = f32::to_bits(y) % 0x8000_0000;
     if a == 0 {
-        return b;
+        return Some(b);
     }
     if b + 0x700_0000 < a {
-        return a;
+        return Some(a);
     }
     let e = x as f64;
     let f = y as f64;
     let v = e * e + f * f;
     let j = std::num::wrapping_sub_u64(f64::to_bits(v), 0x3030_0000_0000_0000);
     if j < 0x1fc0_0000_0000_0000 {
-        return near(j);
-    }
-    0
-}
-
-// Two patterns, the larger first.
-#[derive(Clone, Copy)]
-pub(crate) struct Pair {
-    pub(crate) a: u32,
-    pub(crate) b: u32,
-}
-
-// a and b sorted. By value the choice compiles to selects, where a swap would branch.
-pub(crate) fn sorted(a: u32, b: u32) -> Pair
-    ensures { Sorted a b result.a result.b }
-{
-    if a < b {
-        Pair { a: b, b: a }
+        near(j)
     } else {
-        Pair { a, b }
+        None
     }
 }

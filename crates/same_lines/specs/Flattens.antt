@@ -1,6 +1,6 @@
 -- A moved sheet flattens as the old one did: the same answer, boxes and lines. Assumes nothing.
 use Prim.Native.Nat.{ℕ, suc, ◌+◌, ◌*◌, ◌/◌, ◌%◌, ◌^◌, ◌<◌, ◌≤◌}
-use Rattle.std.specs.Prelude.{◌≡◌, ◌⊎◌, Bool, ◌||◌, eqb, ltb, length}
+use Rattle.std.specs.Prelude.{◌≡◌, ◌⊎◌, Bool, ◌||◌, eqb, ltb, length, Ok, None}
 use Rattle.std.proofs.Math.Path.{refl, ap}
 use Rattle.std.proofs.Common.{sym, ◌∙◌, subst, inl, inr, mod-eq_of_lt, ne_eqb, le-ltb, ltb-true}
 use Rattle.std.proofs.Math.Bool.{true, false}
@@ -15,7 +15,7 @@ use Rattle.segment.specs.Segment.{neighbor_of, shape_events}
 use Rattle.segment.specs.declared.Neighbor.{Neighbor}
 use Rattle.segment.specs.declared.Shape.{Shape}
 use Rattle.segment.specs.declared.Shape.TheVariants.{Stroke}
-use Rattle.refusals.specs.Refusals.{Read, found}
+use Rattle.refusals.specs.Refusals.{Read}
 use Rattle.scene.specs.Tags.{bit, tag_data}
 use Rattle.scene.specs.FreshLaws.{sums_at, fresh_tag, roomy_tag}
 use Rattle.scene.specs.Reading.{width_of}
@@ -30,7 +30,6 @@ use Rattle.flatten.specs.SameEvents.{SameHead, SameAt, heads, same_events}
 use Rattle.flatten.specs.declared.boxes.PathBox.{PathBox}
 use Rattle.flatten.specs.declared.call.Told.{Told}
 use Rattle.flatten.specs.declared.call.Turn.{Turn}
-use Rattle.flatten.specs.declared.call.Stop.TheVariants.{Going}
 use Rattle.flatten.specs.declared.tag.Head.{Head}
 use Rattle.watertight.specs.Fill.{Call, outcome, Accepted, tags, read_head, read_events, head_of, drawn_at, type_of}
 use Rattle.watertight.specs.Steps.{Goes, Halts, turns}
@@ -61,12 +60,12 @@ module _ (old new : Call) (a : Accepted old) (f : Scanned old) (r : Roomy new) (
       let is = fresh_tag old.scene old.layout.tag_base old.prefixes f i (head_of old i).tag (old_parts i h).tag in
       subst (λ (t : PathTagData). Paired t (new_tag_at i)) (sym is.1) (tag_pair old new m.tags few i h)
 
-  new_tag_lem : (i : ℕ) → i < tags old → tag_at new.layout new.scene new.prefixes i ≡ found (new_tag_at i)
+  new_tag_lem : (i : ℕ) → i < tags old → tag_at new.layout new.scene new.prefixes i ≡ Ok (new_tag_at i)
   new_tag_lem i h =
       let w = m.lent.workgroups in
       roomy_tag new.scene new.layout.tag_base new.prefixes r.fresh i (omega (arith, w, m.tags.there)) (omega (arith, w, r.room))
 
-  new_head_lem : (i : ℕ) → i < tags old → read_head new i ≡ found (new_head i)
+  new_head_lem : (i : ℕ) → i < tags old → read_head new i ≡ Ok (new_head i)
   new_head_lem i h =
       let p = pair i h in
       let o = old_parts i h in
@@ -88,7 +87,7 @@ module _ (old new : Call) (a : Accepted old) (f : Scanned old) (r : Roomy new) (
   turned i s = ne_eqb (counts (head_of old i).tag.tag_byte) 0 (λ e. eqb-false (type_of old i) 0 s.drawing (omega arith))
 
   new_points_lem : (i : ℕ) → Segment old i → (stroke : Bool) (ps : List Vec2)
-      → points_at old.layout old.scene stroke (head_of old i).tag ≡ found ps → points_at new.layout new.scene stroke (new_tag_at i) ≡ found ps
+      → points_at old.layout old.scene stroke (head_of old i).tag ≡ Ok ps → points_at new.layout new.scene stroke (new_tag_at i) ≡ Ok ps
   new_points_lem i s stroke ps e =
       let p = pair i s.in_call in
       let t = p.byte.turned (turned i s) in
@@ -96,17 +95,17 @@ module _ (old new : Call) (a : Accepted old) (f : Scanned old) (r : Roomy new) (
       p.byte.kind p.byte.end t.0 t.1 p.offset (reads i s) (counted_pair old new m.tags few) e
 
   new_neighbor : (i : ℕ) → Segment old i → (n : Neighbor)
-      → neighbor_at old.layout old.scene old.prefixes i ≡ found n → neighbor_at new.layout new.scene new.prefixes i ≡ found n
+      → neighbor_at old.layout old.scene old.prefixes i ≡ Ok n → neighbor_at new.layout new.scene new.prefixes i ≡ Ok n
   unfolding neighbor_at
   new_neighbor i s n e =
-      let b = came (tag_at old.layout old.scene old.prefixes i) (λ t. points_at old.layout old.scene true t >>= λ ps. found (neighbor_of t.tag_byte ps)) n e in
+      let b = came (tag_at old.layout old.scene old.prefixes i) (λ t. points_at old.layout old.scene true t >>= λ ps. Ok (neighbor_of t.tag_byte ps)) n e in
       let same : b.value ≡ (head_of old i).tag = let k = b.first in let l = (old_parts i s.in_call).tag in cc in
-      let e' : (points_at old.layout old.scene true (head_of old i).tag >>= λ ps. found (neighbor_of (head_of old i).tag.tag_byte ps)) ≡ found n = rw same at b.then in
-      let d = came (points_at old.layout old.scene true (head_of old i).tag) (λ ps. found (neighbor_of (head_of old i).tag.tag_byte ps)) n e' in
+      let e' : (points_at old.layout old.scene true (head_of old i).tag >>= λ ps. Ok (neighbor_of (head_of old i).tag.tag_byte ps)) ≡ Ok n = rw same at b.then in
+      let d = came (points_at old.layout old.scene true (head_of old i).tag) (λ ps. Ok (neighbor_of (head_of old i).tag.tag_byte ps)) n e' in
       let p = pair i s.in_call in
-      given_on (tag_at new.layout new.scene new.prefixes i) (λ t. points_at new.layout new.scene true t >>= λ ps. found (neighbor_of t.tag_byte ps)) (new_tag_at i) (new_tag_lem i s.in_call)
-      ∙ given_on (points_at new.layout new.scene true (new_tag_at i)) (λ ps. found (neighbor_of (new_tag_at i).tag_byte ps)) d.value (new_points_lem i s true d.value d.first)
-      ∙ ap found (neighbor_same (head_of old i).tag.tag_byte (new_tag_at i).tag_byte d.value p.byte.kind p.byte.end)
+      given_on (tag_at new.layout new.scene new.prefixes i) (λ t. points_at new.layout new.scene true t >>= λ ps. Ok (neighbor_of t.tag_byte ps)) (new_tag_at i) (new_tag_lem i s.in_call)
+      ∙ given_on (points_at new.layout new.scene true (new_tag_at i)) (λ ps. Ok (neighbor_of (new_tag_at i).tag_byte ps)) d.value (new_points_lem i s true d.value d.first)
+      ∙ ap Ok (neighbor_same (head_of old i).tag.tag_byte (new_tag_at i).tag_byte d.value p.byte.kind p.byte.end)
       ∙ d.then
 
   -- ---- what a tag draws
@@ -115,26 +114,26 @@ module _ (old new : Call) (a : Accepted old) (f : Scanned old) (r : Roomy new) (
   next_tag i h = let n : i + 1 < 2 ^ 64 = omega (arith, few) in mod-eq_of_lt n ∙ (let k : i + 1 ≡ suc i = omega arith in k)
 
   new_near : (i j : ℕ) → j ≡ suc i → Segment old (suc i) → (n : Neighbor)
-      → neighbor_at old.layout old.scene old.prefixes j ≡ found n → neighbor_at new.layout new.scene new.prefixes j ≡ found n
+      → neighbor_at old.layout old.scene old.prefixes j ≡ Ok n → neighbor_at new.layout new.scene new.prefixes j ≡ Ok n
   new_near i j is g n e =
-      subst (λ (k : ℕ). neighbor_at new.layout new.scene new.prefixes k ≡ found n) (sym is)
-      (new_neighbor (suc i) g n (subst (λ (k : ℕ). neighbor_at old.layout old.scene old.prefixes k ≡ found n) is e))
+      subst (λ (k : ℕ). neighbor_at new.layout new.scene new.prefixes k ≡ Ok n) (sym is)
+      (new_neighbor (suc i) g n (subst (λ (k : ℕ). neighbor_at old.layout old.scene old.prefixes k ≡ Ok n) is e))
 
   new_stroke : (i : ℕ) → i < tags old → (end closed : Bool) (width : Float) (s : Shape) → (end ≡ false → Segment old (suc i))
-      → stroke_by end closed old.layout old.scene old.prefixes i width ≡ found s → stroke_by end closed new.layout new.scene new.prefixes i width ≡ found s
+      → stroke_by end closed old.layout old.scene old.prefixes i width ≡ Ok s → stroke_by end closed new.layout new.scene new.prefixes i width ≡ Ok s
   unfolding stroke_by
   new_stroke i h true true width s follows e = e
   new_stroke i h true false width s follows e = e
   new_stroke i h false closed width s follows e =
-      let go : Neighbor → Read Shape = λ n. found (Stroke width n) in
+      let go : Neighbor → Read Shape = λ n. Ok (Stroke width n) in
       let b = came (neighbor_at old.layout old.scene old.prefixes ((i + 1) % 2 ^ 64)) go s e in
-      let near : neighbor_at new.layout new.scene new.prefixes ((i + 1) % 2 ^ 64) ≡ found b.value =
+      let near : neighbor_at new.layout new.scene new.prefixes ((i + 1) % 2 ^ 64) ≡ Ok b.value =
       new_near i ((i + 1) % 2 ^ 64) (next_tag i h) (follows refl) b.value b.first in
       given_on (neighbor_at new.layout new.scene new.prefixes ((i + 1) % 2 ^ 64)) go b.value near ∙ b.then
 
   new_shape : (i : ℕ) → Segment old i → (t : Bool) (s : Shape) → is_stroke (head_of old i) ≡ t
-      → shape_at t old.layout old.scene old.prefixes i (head_of old i) ≡ found s → shape_at t new.layout new.scene new.prefixes i (new_head i) ≡ found s
-  unfolding shape_at stroke_at ◌>>=◌
+      → shape_at t old.layout old.scene old.prefixes i (head_of old i) ≡ Ok s → shape_at t new.layout new.scene new.prefixes i (new_head i) ≡ Ok s
+  unfolding shape_at stroke_at
   new_shape i g false s k e = e
   new_shape i g true s k e =
       let p = pair i g.in_call in
@@ -146,13 +145,13 @@ module _ (old new : Call) (a : Accepted old) (f : Scanned old) (r : Roomy new) (
       (new_stroke i g.in_call (eqb (bit byte 0x04) 1) (eqb (byte % 4) 1) (of_bits binary32 b.value) s (followed i st) b.then)
 
   new_drawing : (i : ℕ) → i < tags old → (t : Bool) (es : List Event) → eqb (type_of old i) 0 ≡ t
-      → events_by t old.layout old.scene old.prefixes i (head_of old i) ≡ found es → events_by t new.layout new.scene new.prefixes i (new_head i) ≡ found es
+      → events_by t old.layout old.scene old.prefixes i (head_of old i) ≡ Ok es → events_by t new.layout new.scene new.prefixes i (new_head i) ≡ Ok es
   unfolding events_by
   new_drawing i h true es k e = e
   new_drawing i h false es k e =
       let g : Segment old i = record { in_call = h; drawing = k } in
       let hd = head_of old i in
-      let last : List Float → List Vec2 → Shape → Read (List Event) = λ z ps s. found (shape_events s hd.flags z ps) in
+      let last : List Float → List Vec2 → Shape → Read (List Event) = λ z ps s. Ok (shape_events s hd.flags z ps) in
       let shapes = shape_at (is_stroke hd) old.layout old.scene old.prefixes i hd in
       let points = points_at old.layout old.scene (is_stroke hd) hd.tag in
       let b = came (transform_at old.layout old.scene hd) (λ z. points >>= λ ps. shapes >>= last z ps) es e in
@@ -163,13 +162,13 @@ module _ (old new : Call) (a : Accepted old) (f : Scanned old) (r : Roomy new) (
       let s = d.value in
       let shapes' = shape_at (is_stroke hd) new.layout new.scene new.prefixes i (new_head i) in
       let points' = points_at new.layout new.scene (is_stroke hd) (new_tag_at i) in
-      let transforms : transform_at new.layout new.scene (new_head i) ≡ found z = rw ((pair i h).transform, m.transforms i g) b.first in
+      let transforms : transform_at new.layout new.scene (new_head i) ≡ Ok z = rw ((pair i h).transform, m.transforms i g) b.first in
       given_on (transform_at new.layout new.scene (new_head i)) (λ z. points' >>= λ ps. shapes' >>= last z ps) z transforms
       ∙ given_on points' (λ ps. shapes' >>= last z ps) ps (new_points_lem i g (is_stroke hd) ps c.first)
       ∙ given_on shapes' (last z ps) s (new_shape i g (is_stroke hd) s refl d.first)
       ∙ d.then
 
-  new_events : (i : ℕ) → i < tags old → read_events new i (new_head i) ≡ found (drawn_at old i)
+  new_events : (i : ℕ) → i < tags old → read_events new i (new_head i) ≡ Ok (drawn_at old i)
   unfolding events_at
   new_events i h =
       rw (pair i h).byte.kind (new_drawing i h (eqb (type_of old i) 0) (drawn_at old i) refl ((done old a).sound i h).events)
@@ -201,7 +200,7 @@ module _ (old new : Call) (a : Accepted old) (f : Scanned old) (r : Roomy new) (
           omega (arith, g.left, g.tag)
       go (inr x) k = absurd (omega (arith, x.left))
 
-  start_of_lem : (c : Call) → ltb (length c.scene) c.layout.tag_base || ltb (length c.scene) c.layout.data_base ≡ false → start_of c.layout (length c.scene) ≡ first_turn (tags c) Going
+  start_of_lem : (c : Call) → ltb (length c.scene) c.layout.tag_base || ltb (length c.scene) c.layout.data_base ≡ false → start_of c.layout (length c.scene) ≡ first_turn (tags c) None
   unfolding start_of
   start_of_lem c e = ap (λ (b : Bool). start_at b c.layout) e
 
@@ -218,11 +217,11 @@ module _ (old new : Call) (a : Accepted old) (f : Scanned old) (r : Roomy new) (
       let d : new.layout.data_base ≤ length new.scene = omega (arith, m.points.there) in
       rw (le-ltb _ _ t, le-ltb _ _ d)
 
-  old_start : start_of old.layout (length old.scene) ≡ first_turn (tags old) Going
+  old_start : start_of old.layout (length old.scene) ≡ first_turn (tags old) None
   old_start = start_of_lem old (old_bases _ refl)
 
   same_start : start_of old.layout (length old.scene) ≡ start_of new.layout (length new.scene)
-  same_start = old_start ∙ ap (λ (n : ℕ). first_turn (n * 256) Going) (sym m.lent.workgroups) ∙ sym (start_of_lem new new_bases)
+  same_start = old_start ∙ ap (λ (n : ℕ). first_turn (n * 256) None) (sym m.lent.workgroups) ∙ sym (start_of_lem new new_bases)
 
   abbrev first : State
   first = record { turn = start_of old.layout (length old.scene); boxes = old.boxes; lines = old.lines }

@@ -1,20 +1,18 @@
 -- The points of a moved segment are those of the old one. Assumes nothing.
-use Rattle.std.specs.Prelude.{ℕ, zero, suc, ◌+◌, ◌-◌, ◌*◌, ◌/◌, ◌%◌, ◌^◌, ◌<◌, ◌≤◌, ◌≡◌, Bool, cond, get_or}
-use Rattle.std.proofs.Math.Path.{refl, ap}
+use Rattle.std.specs.Prelude.{ℕ, zero, suc, ◌+◌, ◌-◌, ◌*◌, ◌/◌, ◌%◌, ◌^◌, ◌<◌, ◌≤◌, ◌≡◌, Bool, get_or, Ok}
+use Rattle.std.proofs.Math.Path.{ap}
 use Rattle.std.proofs.Common.{sym, ◌∙◌}
 use Rattle.std.proofs.Math.Bool.{true, false}
-use mathlib.Core.List.{List, [], ◌∷◌}
+use mathlib.Core.List.{List}
 use native.Mathlib.Omega.{arith}
 use Rattle.std.proofs.Math.Dec.{eqb}
 use Rattle.std.proofs.Math.ListN.{length}
 use Rattle.std.specs.Float.Ieee.{fits}
 use borrow.Author.Tests.{lt-ltb, le-leb}
 use Rattle.spiral.specs.declared.util.Vec2.{Vec2}
-use Rattle.scene.specs.Reading.{i16_point, f32_point, point_words, point_at, point_count, raised, line_cubic, quad_cubic, cubic_of, reaches, segment_of, wide, marker, origin}
+use Rattle.scene.specs.Reading.{i16_point, f32_point, point_words, point_at, point_count, raised, line_cubic, quad_cubic, cubic_of, reaches, segment_of, wide, marker}
 use Rattle.scene.specs.Points.{i16_exact}
-use Rattle.scene.specs.declared.reading.SegmentRead.{SegmentRead}
-use Rattle.refusals.specs.Refusals.{found}
-use Rattle.flatten.specs.Tag.{inside}
+use Rattle.refusals.specs.Laws.{found_where}
 use Rattle.sheets.specs.Moving.{x_word, y_word}
 
 -- ---- a cubic
@@ -54,26 +52,21 @@ module _ {scene : List ℕ} {base : ℕ} {scene' : List ℕ} {base' count : ℕ}
       rw (lt-ltb _ _ a, le-leb _ _ b)
 
   -- a segment that was read has its cubic
-  segment_by_lem : (ps qs : List Vec2) (none : SegmentRead) → none.found ≡ false → (t : Bool)
-      → inside (cond t (record { found = true; points = qs }) none).found (cond t (record { found = true; points = qs }) none).points ≡ found ps → qs ≡ ps
-  segment_by_lem ps qs none n true e = cc
-  segment_by_lem ps qs none n false e = let k : inside false none.points ≡ found ps = rw n at e in let z : ◌≡◌ {A = ℕ} 0 1 = cc in absurd (omega arith)
-
   old_cubic : (tag : ℕ) (stroke : Bool) (o : ℕ) (ps : List Vec2) → wide tag ≡ false
-      → inside (segment_of tag stroke o scene base).found (segment_of tag stroke o scene base).points ≡ found ps → cubic_of (tag % 4) (marker tag stroke) scene false (base + o) ≡ ps
+      → segment_of tag stroke o scene base ≡ Ok ps → cubic_of (tag % 4) (marker tag stroke) scene false (base + o) ≡ ps
   unfolding segment_of
   old_cubic tag stroke o ps w e =
       ap (λ (b : Bool). cubic_of (tag % 4) (marker tag stroke) scene b (base + o)) (sym w)
-      ∙ segment_by_lem ps (cubic_of (tag % 4) (marker tag stroke) scene (wide tag) (base + o)) (record { found = false; points = origin ∷ origin ∷ origin ∷ origin ∷ [] }) refl (reaches (tag % 4) (wide tag) o scene base) e
+      ∙ (found_where _ _ _ _ e).1
 
   -- the new segment is found, with the points of the old
   pub points_same : (tag tag' : ℕ) (stroke : Bool) (o o' : ℕ) (ps : List Vec2)
       → tag' % 4 ≡ tag % 4 → tag' / 4 % 2 ≡ tag / 4 % 2 → tag / 8 % 2 ≡ 0 → tag' / 8 % 2 ≡ 1 → o' ≡ 2 * o → o + point_count (tag % 4) ≤ count → count ≤ 2 ^ 30
-      → inside (segment_of tag stroke o scene base).found (segment_of tag stroke o scene base).points ≡ found ps
-      → inside (segment_of tag' stroke o' scene' base').found (segment_of tag' stroke o' scene' base').points ≡ found ps
+      → segment_of tag stroke o scene base ≡ Ok ps
+      → segment_of tag' stroke o' scene' base' ≡ Ok ps
   unfolding segment_of
   points_same tag tag' stroke o o' ps kind end old new double fits few e =
       let w : wide tag ≡ false = ap (λ (x : ℕ). eqb x 1) old in
       let w' : eqb (tag' / 8 % 2) 1 ≡ true = ap (λ (x : ℕ). eqb x 1) new in
       rw (double, kind, end, w', reaches_too (tag % 4) o fits few)
-      (ap found (cubic_same (tag % 4) (marker tag stroke) o fits ∙ old_cubic tag stroke o ps w e))
+      (ap Ok (cubic_same (tag % 4) (marker tag stroke) o fits ∙ old_cubic tag stroke o ps w e))

@@ -1,9 +1,9 @@
 -- Laws of the sums and of the scan. Assumes nothing.
-use Rattle.std.proofs.Common.{◌≡◌, ℕ, zero, suc, ◌+◌, ◌-◌, ◌*◌, ◌/◌, ◌%◌, ◌^◌, ◌<◌, ◌≤◌, min, List, [], ◌∷◌, ◌++◌, length, get_or, drop, set, sym, refl, ap, ◌∙◌, append_assoc, mul-le-mul, add-one, arith, length-append, length-drop, get_or-drop, drop-drop, take_at, le-leb}
+use Rattle.std.proofs.Common.{◌≡◌, ℕ, zero, suc, ◌+◌, ◌-◌, ◌*◌, ◌/◌, ◌%◌, ◌^◌, ◌<◌, ◌≤◌, min, List, [], ◌∷◌, ◌++◌, length, get_or, drop, set, sym, refl, ap, ◌∙◌, append_assoc, mul-le-mul, add-one, arith, length-append, length-drop, get_or-drop, drop-drop, take_at, le-leb, Ok, Err}
 use lib.Seq.{sets, sets-eq, drop-append-add}
 use Rattle.scene.specs.Tags.{less, word_sums, plus, sums_below, sums_before, prefixes, four_words, scan_told, scan_of, filled}
 use Rattle.scene.specs.declared.tags.PathMonoid.{PathMonoid}
-use Rattle.scene.specs.declared.tags.Scanned.TheVariants.{Filled, PastEnd}
+use Rattle.refusals.specs.declared.Refusal.TheVariants.{BadBase}
 use borrow.Author.Tests.{lt-leb}
 
 -- a tag has at most eight data words
@@ -78,11 +78,11 @@ turn {scene} {lent} {base = base} {i} f h put word sum =
       room = omega arith;
     }
 
-pub past : (scene : List ℕ) (base : ℕ) (lent : List ℕ) → length scene < base → scan_told PastEnd lent ≡ scan_of scene base lent
+pub past : (scene : List ℕ) (base : ℕ) (lent : List ℕ) → length scene < base → scan_told (Err BadBase) lent ≡ scan_of scene base lent
 unfolding scan_told scan_of
 past scene base lent h = rw (lt-leb _ _ h)
 
 pub done : {scene lent words : List ℕ} {base n : ℕ} {s : PathMonoid} → Filling scene base lent words s n → base ≤ length scene
-    → n ≡ min (length scene - base) (length lent / 4) → scan_told (Filled n) words ≡ scan_of scene base lent
+    → n ≡ min (length scene - base) (length lent / 4) → scan_told (Ok n) words ≡ scan_of scene base lent
 unfolding scan_told scan_of filled
 done f h e = rw (le-leb _ _ h, ← e, f.stored)

@@ -1,9 +1,10 @@
 -- A worked example, which antt computes from the definitions; those of the scope paper stand in crate `examples`. Assumes nothing.
-use Rattle.std.specs.Prelude.{◌≡◌, ℕ, ◌+◌, false, List, [], ◌∷◌, ◌++◌, replicate, refl}
+use Rattle.std.specs.Prelude.{◌≡◌, ℕ, ◌+◌, List, [], ◌∷◌, ◌++◌, replicate, refl, Ok, Err}
 use Rattle.scene.specs.Words.{word_at}
 use Rattle.scene.specs.Tags.{sums, tag_sums, plus, byte_at, sums_below, word_sums, tag_data, prefix_at, with_prefix, tag_in, tag_of, sums_before, prefixes, filled, scan_of}
 use Rattle.scene.specs.Reading.{transform_of}
-use Rattle.refusals.specs.Refusals.{Read, found}
+use Rattle.refusals.specs.Refusals.{Read}
+use Rattle.refusals.specs.declared.Refusal.TheVariants.{Outside}
 use Rattle.scene.specs.declared.tags.PathTagData.{PathTagData}
 
 -- A triangle whose first tag is given: a transform, then a style, two lines, a line that ends the subpath, and a path.
@@ -18,9 +19,9 @@ abbrev tag : ℕ → ℕ → Read PathTagData
 tag first ix = tag_of (scene_from first) 0 (scan_of (scene_from first) 0 (replicate 4096 0)).words ix
 
 abbrev read : ℕ → ℕ → ℕ → Read PathTagData
-read byte transform offset = found (record { tag_byte = byte; monoid = sums 0 transform 0 offset })
+read byte transform offset = Ok (record { tag_byte = byte; monoid = sums 0 transform 0 offset })
 
 -- with no transform before it, a line's transform index lies one below zero, and that transform's address is past 2^32 - 1
-pub no_transform : (tag 0x00 2 ≡ read 0x01 0xffffffff 0) × ((transform_of (scene_from 0x00) 0x44 0xffffffff).found ≡ false)
+pub no_transform : (tag 0x00 2 ≡ read 0x01 0xffffffff 0) × (transform_of (scene_from 0x00) 0x44 0xffffffff ≡ Err Outside)
 unfolding word_at tag_sums plus byte_at sums_below word_sums tag_data prefix_at with_prefix tag_in tag_of sums_before prefixes filled scan_of transform_of
 no_transform = (refl, refl)

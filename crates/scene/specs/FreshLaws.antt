@@ -1,12 +1,11 @@
 -- With a fresh scan, a tag is its byte and the sums over the tags before it. Assumes nothing.
-use Rattle.std.specs.Prelude.{◌≡◌, ℕ, zero, suc, ◌+◌, ◌-◌, ◌*◌, ◌/◌, ◌%◌, ◌^◌, ◌<◌, ◌≤◌, min, Bool, true, false, cond, List, length, drop, ◌==◌, nat_eq, nat_lt, slice_index, slice_index_or}
+use Rattle.std.specs.Prelude.{◌≡◌, ℕ, zero, suc, ◌+◌, ◌-◌, ◌*◌, ◌/◌, ◌%◌, ◌^◌, ◌<◌, ◌≤◌, min, Bool, true, false, cond, List, length, drop, ◌==◌, nat_eq, nat_lt, slice_index, slice_index_or, Ok, Err}
 use Rattle.std.proofs.Math.Path.{refl, ap}
 use Rattle.std.proofs.Common.{sym, ◌∙◌, length-drop, get_or-append-add, get_or-drop}
 use native.Mathlib.Omega.{arith}
 use Rattle.std.proofs.Math.Decide.{ℕ_discrete}
 use Rattle.std.proofs.Math.ListN.{length-append, get_or-append}
 use borrow.Author.Tests.{lt-ltb, le-leb, ltb-true}
-use Rattle.refusals.specs.Refusals.{found, refused}
 use Rattle.refusals.specs.declared.Refusal.TheVariants as refusal
 use Rattle.scene.specs.Words.{word_at}
 use Rattle.scene.specs.Tags.{sums, tag_sums, plus, byte_at, tag_data, sums_below, word_sums, sums_before, four_words, prefixes, prefix_at, with_prefix, tag_in, tag_of, scan_of, filled}
@@ -71,18 +70,18 @@ unfoldable pub sums_at : List ℕ → ℕ → PathMonoid
 sums_at tags i = placed (byte_of tags i == 0) (sums_before tags (i / 4)) (sums_below (slice_index tags (i / 4)) (i % 4))
 
 with_is : (byte : ℕ) (below before : PathMonoid) (t : Bool) (lent : List ℕ) (i : ℕ) → (t ≡ false → prefix_at lent i ≡ prefix_at (four_words before) 0)
-    → with_prefix byte below t (prefix_at lent i) ≡ found (tag_data byte (placed t before below))
+    → with_prefix byte below t (prefix_at lent i) ≡ Ok (tag_data byte (placed t before below))
 unfolding with_prefix placed prefix_at
 with_is byte below before true lent i f = refl
 with_is byte below before false lent i f = ap (with_prefix byte below false) (f refl)
 
-missing : (byte : ℕ) (below : PathMonoid) (lent : List ℕ) (i : ℕ) → nat_lt i (length lent / 4) ≡ false → with_prefix byte below false (prefix_at lent i) ≡ refused refusal.NoPrefix
+missing : (byte : ℕ) (below : PathMonoid) (lent : List ℕ) (i : ℕ) → nat_lt i (length lent / 4) ≡ false → with_prefix byte below false (prefix_at lent i) ≡ Err refusal.NoPrefix
 unfolding with_prefix prefix_at
 missing byte below lent i e = rw e
 
 -- a prefix that is there is one of as many as are lent
 prefix_there : (byte : ℕ) (below : PathMonoid) (lent : List ℕ) (i : ℕ) (d : PathTagData) (t : Bool) → nat_lt i (length lent / 4) ≡ t
-    → with_prefix byte below false (prefix_at lent i) ≡ found d → i < length lent / 4
+    → with_prefix byte below false (prefix_at lent i) ≡ Ok d → i < length lent / 4
 prefix_there byte below lent i d true b e = ltb-true _ _ b
 prefix_there byte below lent i d false b e = let k = missing byte below lent i b in let z : ◌≡◌ {A = ℕ} 0 1 = cc in absurd (omega arith)
 
@@ -101,7 +100,7 @@ module _ (scene : List ℕ) (base : ℕ) (lent : List ℕ) (i : ℕ) where
   same_word_lem = get_or-drop base scene (i / 4) 0
 
   tag_is : Inside → ((byte_of its_words i == 0) ≡ false → prefix_at lent (i / 4) ≡ prefix_at (four_words (sums_before its_words (i / 4))) 0)
-      → tag_of scene base lent i ≡ found (tag_data (byte_of its_words i) (sums_at its_words i))
+      → tag_of scene base lent i ≡ Ok (tag_data (byte_of its_words i) (sums_at its_words i))
   unfolding tag_of word_at tag_in sums_at byte_of
   tag_is h f =
       rw (lt-ltb _ _ h, ← same_word_lem)
@@ -112,18 +111,18 @@ module _ (scene : List ℕ) (base : ℕ) (lent : List ℕ) (i : ℕ) where
     inside : Inside
     prefix : nat_eq (byte_at its_word (i % 4)) 0 ≡ false → i / 4 < length lent / 4
 
-  seen_prefix : (byte : ℕ) (below : PathMonoid) (t : Bool) (d : PathTagData) → with_prefix byte below t (prefix_at lent (i / 4)) ≡ found d → t ≡ false → i / 4 < length lent / 4
+  seen_prefix : (byte : ℕ) (below : PathMonoid) (t : Bool) (d : PathTagData) → with_prefix byte below t (prefix_at lent (i / 4)) ≡ Ok d → t ≡ false → i / 4 < length lent / 4
   seen_prefix byte below true d e f = let z : ◌≡◌ {A = ℕ} 0 1 = cc in absurd (omega arith)
   seen_prefix byte below false d e f = prefix_there byte below lent (i / 4) d (nat_lt (i / 4) (length lent / 4)) refl e
 
   seen_by : (t : Bool) → nat_lt (base + i / 4) (length scene) ≡ t → (d : PathTagData)
-      → tag_in (cond t (found its_word) (refused refusal.Outside)) (i % 4) (prefix_at lent (i / 4)) ≡ found d → Seen
+      → tag_in (cond t (Ok its_word) (Err refusal.Outside)) (i % 4) (prefix_at lent (i / 4)) ≡ Ok d → Seen
   unfolding tag_in
   seen_by true b d e =
       record { inside = ltb-true _ _ b; prefix = seen_prefix (byte_at its_word (i % 4)) (sums_below its_word (i % 4)) (byte_at its_word (i % 4) == 0) d e }
   seen_by false b d e = let z : ◌≡◌ {A = ℕ} 0 1 = cc in absurd (omega arith)
 
-  seen : (d : PathTagData) → tag_of scene base lent i ≡ found d → Seen
+  seen : (d : PathTagData) → tag_of scene base lent i ≡ Ok d → Seen
   unfolding tag_of word_at
   seen d e = seen_by (nat_lt (base + i / 4) (length scene)) refl d e
 
@@ -186,11 +185,11 @@ module _ (scene : List ℕ) (base : ℕ) (before : List ℕ) (fresh : Fresh scen
   here h l = ap (λ (p : List ℕ). prefix_at p (i / 4)) fresh.scanned ∙ fresh_prefix scene base fresh.lent (i / 4) h l
 
   -- where its word is inside and prefixes enough are lent, a tag is read
-  pub roomy_tag : Inside scene base before i → i / 4 < length fresh.lent / 4 → tag_of scene base before i ≡ found (tag_data (byte_of (drop base scene) i) (sums_at (drop base scene) i))
+  pub roomy_tag : Inside scene base before i → i / 4 < length fresh.lent / 4 → tag_of scene base before i ≡ Ok (tag_data (byte_of (drop base scene) i) (sums_at (drop base scene) i))
   roomy_tag h l = tag_is scene base before i h (λ b. here h l)
 
   -- and a tag that was read is its byte and the sums before it
-  pub fresh_tag : (d : PathTagData) → tag_of scene base before i ≡ found d → Inside scene base before i × (d ≡ tag_data (byte_of (drop base scene) i) (sums_at (drop base scene) i))
+  pub fresh_tag : (d : PathTagData) → tag_of scene base before i ≡ Ok d → Inside scene base before i × (d ≡ tag_data (byte_of (drop base scene) i) (sums_at (drop base scene) i))
   unfolding byte_of
   fresh_tag d e =
       let s = seen scene base before i d e in

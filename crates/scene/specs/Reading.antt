@@ -1,17 +1,16 @@
 -- What a tag's segment, transform and style are in a scene. Definitions only.
-use Rattle.std.specs.Prelude.{ℕ, zero, suc, ◌+◌, ◌-◌, ◌*◌, ◌/◌, ◌%◌, ◌^◌, max, Bool, true, false, cond, ◌&&◌, List, [], ◌∷◌, length, replicate, pos, ◌==◌, from_bits, nat_le, nat_lt, slice_index, Float}
+use Rattle.std.specs.Prelude.{ℕ, zero, suc, ◌+◌, ◌-◌, ◌*◌, ◌/◌, ◌%◌, ◌^◌, max, Bool, true, false, cond, ◌&&◌, List, [], ◌∷◌, length, pos, ◌==◌, from_bits, nat_le, nat_lt, slice_index, Float, Ok, Err}
+use Rattle.std.specs.List.{list_all}
 use Rattle.std.specs.Float.{binary32}
 use Rattle.std.specs.Float.Ieee.{of_int, neg}
 use Rattle.std.specs.Float.Ieee.Scale.{finite}
 use Rattle.laws.specs.Binary32.{◌⊘◌, whole}
 use Rattle.spiral.specs.Util.{new_of, mix_of}
 use Rattle.spiral.specs.declared.util.Vec2.{Vec2}
-use Rattle.refusals.specs.Refusals.{Read, refused}
+use Rattle.refusals.specs.Refusals.{Read}
 use Rattle.refusals.specs.declared.Refusal.TheVariants.{Outside}
 use Rattle.scene.specs.Words.{word_at}
 use Rattle.scene.specs.Tags.{bit}
-use Rattle.scene.specs.declared.reading.SegmentRead.{SegmentRead}
-use Rattle.scene.specs.declared.reading.TransformRead.{TransformRead}
 
 -- ---- points
 
@@ -80,11 +79,11 @@ unfoldable pub reaches : ℕ → Bool → ℕ → List ℕ → ℕ → Bool
 reaches kind w offset scene base =
     nat_lt (offset + (point_count kind - 1) * point_words w) (2 ^ 32) && nat_le (base + offset + point_count kind * point_words w) (length scene)
 
-unfoldable pub segment_of : ℕ → Bool → ℕ → List ℕ → ℕ → SegmentRead
+unfoldable pub segment_of : ℕ → Bool → ℕ → List ℕ → ℕ → Read (List Vec2)
 segment_of tag stroke offset scene base =
     cond (reaches (tag % 4) (wide tag) offset scene base)
-    (record { found = true; points = cubic_of (tag % 4) (marker tag stroke) scene (wide tag) (base + offset) })
-    (record { found = false; points = origin ∷ origin ∷ origin ∷ origin ∷ [] })
+    (Ok (cubic_of (tag % 4) (marker tag stroke) scene (wide tag) (base + offset)))
+    (Err Outside)
 
 -- ---- transforms and styles
 
@@ -92,16 +91,13 @@ unfoldable pub floats_at : List ℕ → ℕ → List Float
 floats_at ws at = float_at ws at ∷ float_at ws (at + 1) ∷ float_at ws (at + 2) ∷ float_at ws (at + 3) ∷ float_at ws (at + 4) ∷ float_at ws (at + 5) ∷ []
 
 -- the address is a u32 product and sum
-unfoldable pub transform_of : List ℕ → ℕ → ℕ → TransformRead
+unfoldable pub transform_of : List ℕ → ℕ → ℕ → Read (List Float)
 transform_of scene base ix =
-    cond (nat_lt (base + ix * 6) (2 ^ 32) && nat_le (base + ix * 6 + 6) (length scene))
-    (record { found = true; z = floats_at scene (base + ix * 6) })
-    (record { found = false; z = replicate 6 (whole 0) })
+    cond (nat_lt (base + ix * 6) (2 ^ 32) && nat_le (base + ix * 6 + 6) (length scene)) (Ok (floats_at scene (base + ix * 6))) (Err Outside)
 
 -- whether each number of a list is neither a NaN nor an infinity
 unfoldable pub all_finite : List Float → Bool
-all_finite [] = true
-all_finite (x ∷ xs) = finite x && all_finite xs
+all_finite z = list_all finite z
 
 -- the address of a style's flags wraps
 unfoldable pub flags_of : List ℕ → ℕ → ℕ → Read ℕ
@@ -109,4 +105,4 @@ flags_of scene base ix = word_at scene ((base + ix) % 2 ^ 32)
 
 -- that of its line width does not
 unfoldable pub width_of : List ℕ → ℕ → ℕ → Read ℕ
-width_of scene base ix = cond (nat_lt (base + ix + 1) (2 ^ 32)) (word_at scene (base + ix + 1)) (refused Outside)
+width_of scene base ix = cond (nat_lt (base + ix + 1) (2 ^ 32)) (word_at scene (base + ix + 1)) (Err Outside)

@@ -1,16 +1,10 @@
 -- What tags add to the four running sums, a tag's own values, and the prefixes that the scan fills. Definitions only.
-use Rattle.std.specs.Prelude.{ℕ, zero, suc, ◌+◌, ◌-◌, ◌*◌, ◌/◌, ◌%◌, ◌^◌, min, Bool, true, false, cond, List, [], ◌∷◌, ◌++◌, length, drop, ◌==◌, nat_le, nat_lt, slice_index}
-use Rattle.refusals.specs.Refusals.{number_of, Read, found, refused}
+use Rattle.std.specs.Prelude.{ℕ, zero, suc, ◌+◌, ◌-◌, ◌*◌, ◌/◌, ◌%◌, ◌^◌, min, Bool, true, false, cond, List, [], ◌∷◌, ◌++◌, length, drop, ◌==◌, nat_le, nat_lt, slice_index, Option, Some, None, Ok, Err}
+use Rattle.refusals.specs.Refusals.{number_of, Read}
 use Rattle.refusals.specs.declared.Refusal.TheVariants as refusal
 use Rattle.scene.specs.Words.{word_at}
 use Rattle.scene.specs.declared.tags.PathMonoid.{PathMonoid}
 use Rattle.scene.specs.declared.tags.PathTagData.{PathTagData}
-use Rattle.scene.specs.declared.tags.Prefix.{Prefix}
-use Rattle.scene.specs.declared.tags.Prefix.TheVariants.{Lent, Missing}
-use Rattle.scene.specs.declared.tags.TagRead.{TagRead}
-use Rattle.scene.specs.declared.tags.TagRead.TheVariants.{Tag, Refused}
-use Rattle.scene.specs.declared.tags.Scanned.{Scanned}
-use Rattle.scene.specs.declared.tags.Scanned.TheVariants.{Filled, PastEnd}
 
 -- ---- sums
 
@@ -58,30 +52,25 @@ tag_data byte before =
     }
 
 -- a prefix is four words: path, transform, style, data
-unfoldable pub prefix_at : List ℕ → ℕ → Prefix
+unfoldable pub prefix_at : List ℕ → ℕ → Option PathMonoid
 prefix_at lent i =
     cond (nat_lt i (length lent / 4))
-    (Lent (sums (slice_index lent (i * 4)) (slice_index lent (i * 4 + 1)) (slice_index lent (i * 4 + 2)) (slice_index lent (i * 4 + 3))))
-    Missing
+    (Some (sums (slice_index lent (i * 4)) (slice_index lent (i * 4 + 1)) (slice_index lent (i * 4 + 2)) (slice_index lent (i * 4 + 3))))
+    None
 
 -- a zero byte skips the prefix
-unfoldable pub with_prefix : ℕ → PathMonoid → Bool → Prefix → Read PathTagData
-with_prefix byte below true prefix = found (tag_data byte below)
-with_prefix byte below false (Lent before) = found (tag_data byte (plus before below))
-with_prefix byte below false Missing = refused refusal.NoPrefix
+unfoldable pub with_prefix : ℕ → PathMonoid → Bool → Option PathMonoid → Read PathTagData
+with_prefix byte below true prefix = Ok (tag_data byte below)
+with_prefix byte below false (Some before) = Ok (tag_data byte (plus before below))
+with_prefix byte below false None = Err refusal.NoPrefix
 
-unfoldable pub tag_in : Read ℕ → ℕ → Prefix → Read PathTagData
-tag_in (found word) place prefix = with_prefix (byte_at word place) (sums_below word place) (byte_at word place == 0) prefix
-tag_in (refused why) place prefix = refused why
+unfoldable pub tag_in : Read ℕ → ℕ → Option PathMonoid → Read PathTagData
+tag_in (Ok word) place prefix = with_prefix (byte_at word place) (sums_below word place) (byte_at word place == 0) prefix
+tag_in (Err why) place prefix = Err why
 
 -- the tag at an index: its word is read first, then the word's prefix
 unfoldable pub tag_of : List ℕ → ℕ → List ℕ → ℕ → Read PathTagData
 tag_of scene base lent ix = tag_in (word_at scene (base + ix / 4)) (ix % 4) (prefix_at lent (ix / 4))
-
--- the code's answer
-abbrev pub tag_read : TagRead → Read PathTagData
-tag_read (Tag d) = found d
-tag_read (Refused why) = refused why
 
 -- ---- the scan
 
@@ -104,9 +93,9 @@ pub record Scan : Type 0 where
   pub count : ℕ
   pub words : List ℕ
 
-unfoldable pub scan_told : Scanned → List ℕ → Scan
-scan_told (Filled n) ws = record { number = 0; count = n; words = ws }
-scan_told PastEnd ws = record { number = number_of refusal.BadBase; count = 0; words = ws }
+unfoldable pub scan_told : Read ℕ → List ℕ → Scan
+scan_told (Ok n) ws = record { number = 0; count = n; words = ws }
+scan_told (Err why) ws = record { number = number_of why; count = 0; words = ws }
 
 unfoldable pub filled : List ℕ → ℕ → List ℕ → Scan
 filled tags n lent = record { number = 0; count = n; words = prefixes tags n ++ drop (n * 4) lent }

@@ -1,26 +1,11 @@
 // The points, the transform and the style words that a tag names.
 ghost use Rattle.std.specs.Prelude.{◌≡◌, ◌+◌, ◌*◌, ◌%◌, ◌≤◌, length};
 ghost use Rattle.std.specs.Float.Ieee.Scale.{finite};
-ghost use Rattle.refusals.specs.Refusals.{told};
-ghost use Rattle.scene.specs.Words.{word_read};
 ghost use Rattle.scene.specs.Reading.{float_at, i16_of, f32_point, i16_point, point_words, point_at, line_cubic, quad_cubic, wide, marker, point_count, cubic_of, reaches, segment_of, floats_at, transform_of, all_finite, flags_of, width_of};
 
-use crate::words::{Word, word_at};
+use crate::words::word_at;
+use refusals::Refusal;
 use spiral::util::Vec2;
-
-// The control points of a segment. Where a point lies outside, refusal 2, all four are (0, 0).
-#[derive(Clone, Copy)]
-pub struct SegmentRead {
-    pub found: bool,
-    pub points: [Vec2; 4],
-}
-
-// The six numbers of a transform. Where one lies outside, refusal 2, all six are 0.
-#[derive(Clone, Copy)]
-pub struct TransformRead {
-    pub found: bool,
-    pub z: [f32; 6],
-}
 
 fn float_at(words: &[u32], at: usize) -> f32
     requires { at + 1 ≤ length words.now }
@@ -40,7 +25,7 @@ fn read_f32_point(words: &[u32], at: usize) -> Vec2
 }
 
 // 16 bits as a signed number, which f32 holds exactly.
-fn i16_of(half: u16) -> f32
+pub fn i16_of(half: u16) -> f32
     ensures { result ≡ i16_of half }
 {
     if half < 0x8000 {
@@ -156,30 +141,23 @@ fn read_cubic(kind: u8, marker: bool, wide: bool, words: &[u32], at: usize) -> [
     [p0, p1, p2, p3]
 }
 
+// The control points of a segment. Refused where one of its points lies outside.
 pub fn read_path_segment(
     tag_byte: u8,
     is_stroke: bool,
     pathseg_offset: u32,
     scene: &[u32],
     data_base: u32,
-) -> SegmentRead
+) -> Result<[Vec2; 4], Refusal>
     ensures { result ≡ segment_of tag_byte is_stroke pathseg_offset scene.now data_base }
 {
     let kind = tag_byte % 4;
     let wide = is_wide(tag_byte);
-    if in_reach(kind, wide, pathseg_offset, scene, data_base) {
-        let at = data_base as usize + pathseg_offset as usize;
-        let points = read_cubic(kind, is_marker(tag_byte, is_stroke), wide, scene, at);
-        return SegmentRead {
-            found: true,
-            points,
-        };
+    if !in_reach(kind, wide, pathseg_offset, scene, data_base) {
+        return Err(Refusal::Outside);
     }
-    let zero = Vec2::new(0.0, 0.0);
-    SegmentRead {
-        found: false,
-        points: [zero, zero, zero, zero],
-    }
+    let at = data_base as usize + pathseg_offset as usize;
+    Ok(read_cubic(kind, is_marker(tag_byte, is_stroke), wide, scene, at))
 }
 
 fn read_floats(words: &[u32], at: usize) -> [f32; 6]
@@ -196,20 +174,19 @@ fn read_floats(words: &[u32], at: usize) -> [f32; 6]
     ]
 }
 
-pub fn read_transform(scene: &[u32], transform_base: u32, trans_ix: u32) -> TransformRead
+// The six numbers of a transform. Refused where one lies outside.
+pub fn read_transform(
+    scene: &[u32],
+    transform_base: u32,
+    trans_ix: u32,
+) -> Result<[f32; 6], Refusal>
     ensures { result ≡ transform_of scene.now transform_base trans_ix }
 {
     let at = transform_base as usize + trans_ix as usize * 6;
-    if at <= 0xffff_ffff {
-        if at + 6 <= scene.len() {
-            let z = read_floats(scene, at);
-            return TransformRead { found: true, z };
-        }
+    if at <= 0xffff_ffff && at + 6 <= scene.len() {
+        return Ok(read_floats(scene, at));
     }
-    TransformRead {
-        found: false,
-        z: [0.0, 0.0, 0.0, 0.0, 0.0, 0.0],
-    }
+    Err(Refusal::Outside)
 }
 
 // Neither an infinity nor a NaN, which no comparison holds of.
@@ -227,14 +204,7 @@ pub fn is_finite(x: f32) -> bool
 pub fn all_finite(z: [f32; 6]) -> bool
     ensures { result ≡ all_finite z }
 {
-    let mut k: usize = 0;
-    while k < 6 {
-        if !is_finite(z[k]) {
-            return false;
-        }
-        k += 1;
-    }
-    true
+    z.iter().all(|x| is_finite(*x))
 }
 
 // The address of the style's flags, the one that wraps.
@@ -245,20 +215,19 @@ fn flags_address(style_base: u32, style_ix: u32) -> u64
 }
 
 // The word of the style's flags.
-pub fn style_flags(scene: &[u32], style_base: u32, style_ix: u32) -> Word
-    ensures { told (word_read result) ≡ told (flags_of scene.now style_base style_ix) }
+pub fn style_flags(scene: &[u32], style_base: u32, style_ix: u32) -> Result<u32, Refusal>
+    ensures { result ≡ flags_of scene.now style_base style_ix }
 {
     word_at(scene, flags_address(style_base, style_ix))
 }
 
 // The word of the line width, whose address does not wrap.
-pub fn line_width(scene: &[u32], style_base: u32, style_ix: u32) -> Word
-    ensures { told (word_read result) ≡ told (width_of scene.now style_base style_ix) }
+pub fn line_width(scene: &[u32], style_base: u32, style_ix: u32) -> Result<u32, Refusal>
+    ensures { result ≡ width_of scene.now style_base style_ix }
 {
     let at = style_base as u64 + style_ix as u64 + 1;
-    if at <= 0xffff_ffff {
-        word_at(scene, at)
-    } else {
-        Word::Outside
+    if at > 0xffff_ffff {
+        return Err(Refusal::Outside);
     }
+    word_at(scene, at)
 }

@@ -1,10 +1,9 @@
 // The tags of a scene, four to a word, and their running sums.
 ghost use Rattle.std.specs.Prelude.{◌≡◌, ◌+◌, ◌<◌, ◌≤◌, min, length, nat_eq};
 ghost use Rattle.std.proofs.lemmas.List.Edits.{sets};
-ghost use Rattle.refusals.specs.Refusals.{told};
-ghost use Rattle.scene.specs.Tags.{tag_sums, plus, byte_at, sums_below, word_sums, tag_data, prefix_at, with_prefix, tag_read, tag_of, four_words, scan_told, scan_of};
+ghost use Rattle.scene.specs.Tags.{tag_sums, plus, byte_at, sums_below, word_sums, tag_data, prefix_at, with_prefix, tag_of, four_words, scan_told, scan_of};
 
-use crate::words::{Word, word_at};
+use crate::words::word_at;
 use refusals::Refusal;
 
 // What tags add up to, each sum modulo 2^32.
@@ -20,27 +19,6 @@ pub struct PathMonoid {
 pub struct PathTagData {
     pub tag_byte: u8,
     pub monoid: PathMonoid,
-}
-
-#[derive(Clone, Copy)]
-pub enum TagRead {
-    Tag(PathTagData),
-    // The tag's word lies outside the scene, or its prefix is not lent.
-    Refused(Refusal),
-}
-
-#[derive(Clone, Copy)]
-enum Prefix {
-    Lent(PathMonoid),
-    Missing,
-}
-
-#[derive(Clone, Copy)]
-pub enum Scanned {
-    // So many prefixes.
-    Filled(u64),
-    // The tag base lies past the scene's end: refusal 1.
-    PastEnd,
 }
 
 // What one tag adds.
@@ -73,10 +51,8 @@ fn sums_below(word: u32, place: u32) -> PathMonoid
         style_ix: 0,
         path_ix: 0,
     };
-    let mut k: u32 = 0;
-    while k < place {
+    for k in 0..place {
         sums = sums.combine(tag_sums(byte_at(word, k)));
-        k += 1;
     }
     sums
 }
@@ -113,52 +89,56 @@ fn tag_data(tag_byte: u8, before: PathMonoid) -> PathTagData
     PathTagData { tag_byte, monoid }
 }
 
-fn prefix_at(prefixes: &[u32], i: u64) -> Prefix
+fn prefix_at(prefixes: &[u32], i: u64) -> Option<PathMonoid>
     ensures { result ≡ prefix_at prefixes.now i }
 {
     let n = i as usize;
     if n < prefixes.len() / 4 {
         let at = n * 4;
-        Prefix::Lent(PathMonoid {
+        Some(PathMonoid {
             path_ix: prefixes[at],
             trans_ix: prefixes[at + 1],
             style_ix: prefixes[at + 2],
             pathseg_offset: prefixes[at + 3],
         })
     } else {
-        Prefix::Missing
+        None
     }
 }
 
-// A zero byte skips the prefix.
-fn with_prefix(tag_byte: u8, below: PathMonoid, prefixes: &[u32], i: u64) -> TagRead
-    ensures { tag_read result ≡ with_prefix tag_byte below (nat_eq tag_byte 0) (prefix_at prefixes.now i) }
+// A zero byte skips the prefix. Refused where the prefix is not lent.
+fn with_prefix(
+    tag_byte: u8,
+    below: PathMonoid,
+    prefixes: &[u32],
+    i: u64,
+) -> Result<PathTagData, Refusal>
+    ensures { result ≡ with_prefix tag_byte below (nat_eq tag_byte 0) (prefix_at prefixes.now i) }
 {
     if tag_byte == 0 {
-        return TagRead::Tag(tag_data(tag_byte, below));
+        return Ok(tag_data(tag_byte, below));
     }
-    match prefix_at(prefixes, i) {
-        Prefix::Lent(before) => TagRead::Tag(tag_data(tag_byte, before.combine(below))),
-        Prefix::Missing => TagRead::Refused(Refusal::NoPrefix),
-    }
+    let before = prefix_at(prefixes, i).ok_or(Refusal::NoPrefix)?;
+    Ok(tag_data(tag_byte, before.combine(below)))
 }
 
-// The tag at an index, with the sums before it.
-pub fn compute_tag_monoid(scene: &[u32], tag_base: u32, prefixes: &[u32], ix: u64) -> TagRead
-    ensures { told (tag_read result) ≡ told (tag_of scene.now tag_base prefixes.now ix) }
+// The tag at an index, with the sums before it. Refused where its word lies outside the scene, or its prefix is not lent.
+pub fn compute_tag_monoid(
+    scene: &[u32],
+    tag_base: u32,
+    prefixes: &[u32],
+    ix: u64,
+) -> Result<PathTagData, Refusal>
+    ensures { result ≡ tag_of scene.now tag_base prefixes.now ix }
 {
-    match word_at(scene, tag_base as u64 + ix / 4) {
-        Word::At(word) => {
-            let place = (ix % 4) as u32;
-            with_prefix(
-                byte_at(word, place),
-                sums_below(word, place),
-                prefixes,
-                ix / 4,
-            )
-        }
-        Word::Outside => TagRead::Refused(Refusal::Outside),
-    }
+    let word = word_at(scene, tag_base as u64 + ix / 4)?;
+    let place = (ix % 4) as u32;
+    with_prefix(
+        byte_at(word, place),
+        sums_below(word, place),
+        prefixes,
+        ix / 4,
+    )
 }
 
 fn put_prefix(words: &mut [u32], at: usize, s: PathMonoid)
@@ -171,27 +151,20 @@ fn put_prefix(words: &mut [u32], at: usize, s: PathMonoid)
     words[at + 3] = s.pathseg_offset;
 }
 
-fn smaller(a: usize, b: usize) -> usize
-    ensures { result ≡ min a b }
-{
-    if a < b { a } else { b }
-}
-
-// Fills the prefixes of the tag words: each the sums over the words before its own.
-pub fn scan(scene: &[u32], tag_base: u32, prefixes: &mut [u32]) -> Scanned
+// Fills the prefixes of the tag words, each with the sums over the words before its own: so many. Refused where the tag base
+// lies past the scene's end.
+pub fn scan(scene: &[u32], tag_base: u32, prefixes: &mut [u32]) -> Result<u64, Refusal>
     ensures { scan_told result prefixes.new ≡ scan_of scene.now tag_base prefixes.old }
 {
     let base = tag_base as usize;
     if base > scene.len() {
-        return Scanned::PastEnd;
+        return Err(Refusal::BadBase);
     }
-    let n = smaller(scene.len() - base, prefixes.len() / 4);
+    let n = (scene.len() - base).min(prefixes.len() / 4);
     let mut sums = sums_below(0, 0);
-    let mut i: usize = 0;
-    while i < n {
+    for i in 0..n {
         put_prefix(prefixes, i * 4, sums);
         sums = sums.combine(PathMonoid::new(scene[base + i]));
-        i += 1;
     }
-    Scanned::Filled(n as u64)
+    Ok(n as u64)
 }

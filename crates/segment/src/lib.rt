@@ -1,7 +1,8 @@
 // What a segment draws: a fill, a stroke, or the cap where a stroke starts.
-#![tactic(auto)]
+#![tactic(auto, unfolding(crate::specs::Segment::quarter, crate::specs::Segment::steady_of, crate::specs::Segment::neighbor_of, crate::specs::Segment::tangents_of, crate::specs::Segment::edges_of, crate::specs::Segment::sides_events, crate::specs::Segment::end_events, crate::specs::Segment::stroke_events, crate::specs::Segment::start_cap_events, crate::specs::Segment::fill_events, crate::specs::Segment::shape_events, drawing::proofs::Floats::of_bits, drawing::proofs::Floats::round))]
 
 ghost use Rattle.std.specs.Prelude.{◌≡◌};
+ghost use Rattle.drawing.specs.Cubic.{point};
 ghost use Rattle.drawing.specs.Page.{Drew};
 ghost use Rattle.segment.specs.Segment.{quarter, steady_of, neighbor_of, tangents_of, edges_of, sides_events, end_events, stroke_events, start_cap_events, fill_events, shape_events};
 
@@ -9,7 +10,7 @@ use curve::flatten_euler;
 use drawing::cap::draw_cap;
 use drawing::cubic::{cubic_end_tangent, cubic_start_tangent};
 use drawing::join::draw_join;
-use drawing::line::Ink;
+use drawing::line::{Nib, Stopped};
 use spiral::euler::TANGENT_THRESH;
 use spiral::util::Vec2;
 
@@ -17,7 +18,7 @@ const START_CAP_MASK: u32 = 0x0c00_0000;
 
 const END_CAP_MASK: u32 = 0x0300_0000;
 
-// The segment after a stroked one: whether the two are joined, and its tangent.
+// The segment after a stroked one: whether the two are joined, and its tangent, which it has in either case.
 #[derive(Clone, Copy)]
 pub struct Neighbor {
     pub do_join: bool,
@@ -31,6 +32,14 @@ pub enum Shape {
     Fill,
     StartCap(f32),
     Stroke(f32, Neighbor),
+}
+
+// A segment as it is drawn: its points, its transform, and the flags of its style.
+#[derive(Clone, Copy)]
+pub struct Segment {
+    pub cubic: [Vec2; 4],
+    pub transform: [f32; 6],
+    pub flags: u32,
 }
 
 // The tangents where a segment starts, where it ends, and where the next one starts.
@@ -55,7 +64,7 @@ pub fn neighbor_of(tag_byte: u8, cubic: [Vec2; 4]) -> Neighbor
     ensures { result ≡ neighbor_of tag_byte cubic }
 {
     if tag_byte / 0x04 % 2 == 1 {
-        let chord = cubic[3].sub(cubic[0]);
+        let chord = cubic[3] - cubic[0];
         return Neighbor {
             do_join: tag_byte % 4 == 1,
             tangent: chord,
@@ -96,10 +105,10 @@ fn tangents_of(cubic: [Vec2; 4], next: Vec2) -> Tangents
 fn edges_of(t: Tangents, offset: f32) -> Edges
     ensures { result ≡ edges_of t offset }
 {
-    let n_start = quarter_turn(t.start).normalize().mul(offset);
-    let offset_tangent = t.prev.normalize().mul(offset);
+    let n_start = quarter_turn(t.start).normalize() * offset;
+    let offset_tangent = t.prev.normalize() * offset;
     let n_prev = quarter_turn(offset_tangent);
-    let n_next = quarter_turn(t.next.normalize()).mul(offset);
+    let n_next = quarter_turn(t.next.normalize()) * offset;
     Edges {
         offset_tangent,
         n_start,
@@ -108,143 +117,114 @@ fn edges_of(t: Tangents, offset: f32) -> Edges
     }
 }
 
-// The side at the offset, then the one across.
-fn draw_sides(
-    lines: &mut [u32],
-    ink: Ink,
-    path: u32,
-    cubic: [Vec2; 4],
-    transform: [f32; 6],
-    offset: f32,
-    e: Edges,
-) -> Ink
-    ensures { Drew path lines.old ink (sides_events transform cubic offset e) lines.new result }
-{
-    let p0 = cubic[0];
-    let p3 = cubic[3];
-    let start = p0.add(e.n_start);
-    let end = p3.add(e.n_prev);
-    let back_start = p0.sub(e.n_start);
-    let back_end = p3.sub(e.n_prev);
-    let first = flatten_euler(lines, ink, path, cubic, transform, offset, start, end);
-    flatten_euler(
-        lines, first, path, cubic, transform, -offset, back_start, back_end,
-    )
-}
-
-// The join to the next segment, or the cap where the stroke ends.
-fn draw_end(
-    lines: &mut [u32],
-    ink: Ink,
-    path: u32,
-    flags: u32,
-    transform: [f32; 6],
-    p3: Vec2,
-    do_join: bool,
-    t: Tangents,
-    e: Edges,
-) -> Ink
-    ensures { Drew path lines.old ink (end_events do_join flags transform p3 t e) lines.new result }
-{
-    if do_join {
-        return draw_join(
-            lines, ink, path, flags, p3, t.prev, t.next, e.n_prev, e.n_next, transform,
-        );
+impl Segment {
+    // The side at the offset, then the one across.
+    fn draw_sides(self, lines: &mut [u32], nib: Nib, offset: f32, e: Edges) -> Result<Nib, Stopped>
+        ensures { Drew lines.old nib (sides_events self.transform self.cubic offset e) lines.new result }
+    {
+        let cubic = self.cubic;
+        let transform = self.transform;
+        let p0 = cubic[0];
+        let p3 = cubic[3];
+        let start = p0 + e.n_start;
+        let end = p3 + e.n_prev;
+        let back_start = p0 - e.n_start;
+        let back_end = p3 - e.n_prev;
+        let first = flatten_euler(lines, nib, cubic, transform, offset, start, end)?;
+        flatten_euler(
+            lines, first, cubic, transform, -offset, back_start, back_end,
+        )
     }
-    draw_cap(
-        lines,
-        ink,
-        path,
-        flags & END_CAP_MASK,
-        p3,
-        p3.add(e.n_prev),
-        p3.sub(e.n_prev),
-        e.offset_tangent,
-        transform,
-    )
-}
 
-fn stroke(
-    lines: &mut [u32],
-    ink: Ink,
-    path: u32,
-    flags: u32,
-    cubic: [Vec2; 4],
-    transform: [f32; 6],
-    width: f32,
-    neighbor: Neighbor,
-) -> Ink
-    ensures { Drew path lines.old ink (stroke_events flags transform cubic width neighbor) lines.new result }
-{
-    let offset = 0.5 * width;
-    let t = tangents_of(cubic, neighbor.tangent);
-    let e = edges_of(t, offset);
-    let sides = draw_sides(lines, ink, path, cubic, transform, offset, e);
-    draw_end(
-        lines,
-        sides,
-        path,
-        flags,
-        transform,
-        cubic[3],
-        neighbor.do_join,
-        t,
-        e,
-    )
-}
+    // The join to the next segment, or the cap where the stroke ends.
+    fn draw_end(
+        self,
+        lines: &mut [u32],
+        nib: Nib,
+        do_join: bool,
+        t: Tangents,
+        e: Edges,
+    ) -> Result<Nib, Stopped>
+        ensures { Drew lines.old nib (end_events do_join self.flags self.transform (point self.cubic 3) t e) lines.new result }
+    {
+        let p3 = self.cubic[3];
+        if do_join {
+            return draw_join(
+                lines,
+                nib,
+                self.flags,
+                p3,
+                t.prev,
+                t.next,
+                e.n_prev,
+                e.n_next,
+                self.transform,
+            );
+        }
+        draw_cap(
+            lines,
+            nib,
+            self.flags & END_CAP_MASK,
+            p3,
+            p3 + e.n_prev,
+            p3 - e.n_prev,
+            e.offset_tangent,
+            self.transform,
+        )
+    }
 
-// The curve alone: a subpath that the data leave open is not closed.
-fn fill(lines: &mut [u32], ink: Ink, path: u32, cubic: [Vec2; 4], transform: [f32; 6]) -> Ink
-    ensures { Drew path lines.old ink (fill_events transform cubic) lines.new result }
-{
-    flatten_euler(lines, ink, path, cubic, transform, 0.0, cubic[0], cubic[3])
-}
+    fn stroke(
+        self,
+        lines: &mut [u32],
+        nib: Nib,
+        width: f32,
+        neighbor: Neighbor,
+    ) -> Result<Nib, Stopped>
+        ensures { Drew lines.old nib (stroke_events self.flags self.transform self.cubic width neighbor) lines.new result }
+    {
+        let offset = 0.5 * width;
+        let t = tangents_of(self.cubic, neighbor.tangent);
+        let e = edges_of(t, offset);
+        let sides = self.draw_sides(lines, nib, offset, e)?;
+        self.draw_end(lines, sides, neighbor.do_join, t, e)
+    }
 
-fn start_cap(
-    lines: &mut [u32],
-    ink: Ink,
-    path: u32,
-    flags: u32,
-    cubic: [Vec2; 4],
-    transform: [f32; 6],
-    width: f32,
-) -> Ink
-    ensures { Drew path lines.old ink (start_cap_events flags transform cubic width) lines.new result }
-{
-    let p0 = cubic[0];
-    let offset_tangent = cubic[3].sub(p0).normalize().mul(0.5 * width);
-    let n = quarter_turn(offset_tangent);
-    let style = (flags & START_CAP_MASK) / 4;
-    draw_cap(
-        lines,
-        ink,
-        path,
-        style,
-        p0,
-        p0.sub(n),
-        p0.add(n),
-        offset_tangent.neg(),
-        transform,
-    )
-}
+    // The curve alone: a subpath that the data leave open is not closed.
+    fn fill(self, lines: &mut [u32], nib: Nib) -> Result<Nib, Stopped>
+        ensures { Drew lines.old nib (fill_events self.transform self.cubic) lines.new result }
+    {
+        let cubic = self.cubic;
+        let transform = self.transform;
+        flatten_euler(lines, nib, cubic, transform, 0.0, cubic[0], cubic[3])
+    }
 
-pub fn draw_shape(
-    lines: &mut [u32],
-    ink: Ink,
-    path: u32,
-    flags: u32,
-    cubic: [Vec2; 4],
-    transform: [f32; 6],
-    shape: Shape,
-) -> Ink
-    ensures { Drew path lines.old ink (shape_events shape flags transform cubic) lines.new result }
-{
-    match shape {
-        Shape::Nothing => ink,
-        Shape::Fill => fill(lines, ink, path, cubic, transform),
-        Shape::StartCap(width) => start_cap(lines, ink, path, flags, cubic, transform, width),
-        Shape::Stroke(width, neighbor) => stroke(
-            lines, ink, path, flags, cubic, transform, width, neighbor,
-        ),
+    fn start_cap(self, lines: &mut [u32], nib: Nib, width: f32) -> Result<Nib, Stopped>
+        ensures { Drew lines.old nib (start_cap_events self.flags self.transform self.cubic width) lines.new result }
+    {
+        let p0 = self.cubic[0];
+        let offset_tangent = (self.cubic[3] - p0).normalize() * (0.5 * width);
+        let n = quarter_turn(offset_tangent);
+        let style = (self.flags & START_CAP_MASK) / 4;
+        draw_cap(
+            lines,
+            nib,
+            style,
+            p0,
+            p0 - n,
+            p0 + n,
+            -offset_tangent,
+            self.transform,
+        )
+    }
+
+    pub fn draw_shape(self, lines: &mut [u32], nib: Nib, shape: Shape) -> Result<Nib, Stopped>
+        ensures { Drew lines.old nib (shape_events shape self.flags self.transform self.cubic) lines.new result }
+    {
+        match shape {
+            Shape::Nothing => Ok(nib),
+            Shape::Fill => self.fill(lines, nib),
+            Shape::StartCap(width) => self.start_cap(lines, nib, width),
+            Shape::Stroke(width, neighbor) => self.stroke(lines, nib, width, neighbor),
+        }
     }
 }

@@ -1,4 +1,5 @@
 pub mod Util
+pub mod Same
 pub mod Euler
 pub mod Points
 pub mod NoOffset

@@ -200,7 +200,7 @@ impl CubicParams {
     pub fn judged(p0: Vec2, p1: Vec2, q0: Vec2, q1: Vec2, dt: f32, scale: f32) -> CubicParams
         ensures { Judged scale (from_points_derivs p0 p1 q0 q1 dt) result }
     {
-        let chord = p1.sub(p0);
+        let chord = p1 - p0;
         let chord_squared = chord.length_squared();
         let chord_len = maths::sqrt(chord_squared);
         if chord_squared < TANGENT_THRESH * TANGENT_THRESH {
@@ -274,7 +274,7 @@ impl EulerParams {
             x: offset * maths::sin(th),
             y: offset * maths::cos(th),
         };
-        p.add(v)
+        p + v
     }
 }
 
@@ -292,7 +292,7 @@ impl EulerSeg {
         let p0 = self.p0;
         let p1 = self.p1;
         let params = self.params;
-        let chord = p1.sub(p0);
+        let chord = p1 - p0;
         let p = params.eval_with_offset(t, normalized_offset);
         Vec2 {
             x: p0.x + chord.x * p.x - chord.y * p.y,

@@ -1,6 +1,11 @@
 // Points, and the six numbers of a transform.
+#![tactic(auto, unfolding(crate::specs::Util::add_of, crate::specs::Util::sub_of, crate::specs::Util::mul_of, crate::specs::Util::div_of, crate::specs::Util::neg_of, crate::specs::Util::eq_of, crate::specs::Util::has_nan, crate::specs::Util::normalize_of, crate::specs::Util::mix_of))]
+
 ghost use Rattle.std.specs.Prelude.{◌≡◌};
 ghost use Rattle.spiral.specs.Util.{add_of, sub_of, mul_of, div_of, neg_of, new_of, dot_of, length_of, length_squared_of, mix_of, normalize_of, angle_of, has_nan, eq_of, identity_of, apply_of};
+ghost use Rattle.spiral.specs.Same.{same_points};
+
+use std::ops::{Add, Div, Mul, Neg, Sub};
 
 // An epsilon of the source for numerical robustness.
 pub const ROBUST_EPSILON: f32 = 2e-7;
@@ -16,51 +21,6 @@ impl Vec2 {
         ensures { result ≡ new_of x y }
     {
         Vec2 { x, y }
-    }
-
-    pub fn add(self, rhs: Vec2) -> Vec2
-        ensures { result ≡ add_of self rhs }
-    {
-        Vec2 {
-            x: self.x + rhs.x,
-            y: self.y + rhs.y,
-        }
-    }
-
-    pub fn sub(self, rhs: Vec2) -> Vec2
-        ensures { result ≡ sub_of self rhs }
-    {
-        Vec2 {
-            x: self.x - rhs.x,
-            y: self.y - rhs.y,
-        }
-    }
-
-    pub fn mul(self, rhs: f32) -> Vec2
-        ensures { result ≡ mul_of self rhs }
-    {
-        Vec2 {
-            x: self.x * rhs,
-            y: self.y * rhs,
-        }
-    }
-
-    pub fn div(self, rhs: f32) -> Vec2
-        ensures { result ≡ div_of self rhs }
-    {
-        Vec2 {
-            x: self.x / rhs,
-            y: self.y / rhs,
-        }
-    }
-
-    pub fn neg(self) -> Vec2
-        ensures { result ≡ neg_of self }
-    {
-        Vec2 {
-            x: -self.x,
-            y: -self.y,
-        }
     }
 
     pub fn dot(self, other: Vec2) -> f32
@@ -93,7 +53,7 @@ impl Vec2 {
     pub fn normalize(self) -> Vec2
         ensures { result ≡ normalize_of self }
     {
-        self.div(self.length())
+        self / self.length()
     }
 
     pub fn atan2(self) -> f32
@@ -105,20 +65,83 @@ impl Vec2 {
     pub fn is_nan(self) -> bool
         ensures { result ≡ has_nan self }
     {
-        if maths::is_nan(self.x) {
-            return true;
-        }
-        maths::is_nan(self.y)
+        maths::is_nan(self.x) || maths::is_nan(self.y)
     }
+}
 
-    // Equal as numbers: +0 equals -0, and a NaN equals nothing.
-    pub fn eq(self, other: Vec2) -> bool
-        ensures { result ≡ eq_of self other }
-    {
-        if self.x == other.x {
-            return self.y == other.y;
+impl Add for Vec2 {
+    type Output = Vec2;
+
+    ghost add_gives = { λ a b r. r ≡ add_of a b };
+
+    fn add(self, rhs: Vec2) -> Vec2 {
+        Vec2 {
+            x: self.x + rhs.x,
+            y: self.y + rhs.y,
         }
-        false
+    }
+}
+
+impl Sub for Vec2 {
+    type Output = Vec2;
+
+    ghost sub_gives = { λ a b r. r ≡ sub_of a b };
+
+    fn sub(self, rhs: Vec2) -> Vec2 {
+        Vec2 {
+            x: self.x - rhs.x,
+            y: self.y - rhs.y,
+        }
+    }
+}
+
+impl Mul<f32> for Vec2 {
+    type Output = Vec2;
+
+    ghost mul_gives = { λ a s r. r ≡ mul_of a s };
+
+    fn mul(self, rhs: f32) -> Vec2 {
+        Vec2 {
+            x: self.x * rhs,
+            y: self.y * rhs,
+        }
+    }
+}
+
+impl Div<f32> for Vec2 {
+    type Output = Vec2;
+
+    ghost div_gives = { λ a s r. r ≡ div_of a s };
+
+    fn div(self, rhs: f32) -> Vec2 {
+        Vec2 {
+            x: self.x / rhs,
+            y: self.y / rhs,
+        }
+    }
+}
+
+impl Neg for Vec2 {
+    type Output = Vec2;
+
+    ghost neg_gives = { λ a r. r ≡ neg_of a };
+
+    fn neg(self) -> Vec2 {
+        Vec2 {
+            x: -self.x,
+            y: -self.y,
+        }
+    }
+}
+
+// Equal as numbers: +0 equals -0, and a NaN equals nothing.
+impl PartialEq for Vec2 {
+    ghost eq = { eq_of };
+
+    ghost laws = { same_points };
+
+    fn eq(&self, other: &Vec2) -> bool {
+        self.x == other.x && self.y == other.y
     }
 }
 

@@ -1,12 +1,13 @@
 -- What a tag of an open stroke draws, by the call's own reads: its transform, its cubic, its style, and the cubic of the tag behind it. Assumes nothing.
 use Prim.Native.Nat.{ℕ, zero, suc, ◌+◌, ◌*◌, ◌%◌, ◌^◌, ◌<◌}
-use Rattle.std.specs.Prelude.{◌≡◌, refl, Bool, true, false, List, eqb, length, Float}
+use Rattle.std.specs.Prelude.{◌≡◌, refl, Bool, true, false, List, eqb, length, Float, Ok}
 use Rattle.std.proofs.Common.{sym, ◌∙◌}
 use Rattle.std.proofs.Math.Path.{ap}
 use native.Mathlib.Omega.{arith}
 use Rattle.std.proofs.Math.Nat.{mod-eq_of_lt}
 use Rattle.std.specs.Float.Ieee.{binary32, of_bits}
 use Rattle.std.specs.Float.Ieee.Fits.{round-fits, add-fits}
+use Rattle.refusals.specs.Refusals.{Read}
 use Rattle.spiral.specs.Util.{sub_of, mix_of}
 use Rattle.spiral.specs.Points.{FitsPoint}
 use Rattle.spiral.specs.declared.util.Vec2.{Vec2}
@@ -18,8 +19,7 @@ use Rattle.segment.specs.declared.Shape.TheVariants.{Stroke}
 use Rattle.scene.specs.Tags.{bit}
 use Rattle.scene.specs.Reading.{wide, marker, line_cubic, quad_cubic, origin, raised, cubic_of, floats_at, width_of}
 use Rattle.scene.specs.declared.tags.PathTagData.{PathTagData}
-use Rattle.refusals.specs.Refusals.{found}
-use Rattle.flatten.specs.Tag.{◌>>=◌, tag_at, points_at, neighbor_at, stroke_by, stroke_at, shape_at, events_at, is_stroke}
+use Rattle.flatten.specs.Tag.{tag_at, points_at, neighbor_at, stroke_by, stroke_at, shape_at, events_at, is_stroke}
 use Rattle.flatten.specs.Found.{came, parts, points_found, head_parts}
 use Rattle.flatten.specs.declared.call.Layout.{Layout}
 use Rattle.flatten.specs.declared.tag.Head.{Head}
@@ -29,38 +29,38 @@ use Rattle.watertight.specs.Accepted.{Sound}
 use Rattle.strokes.specs.Sides.{FitsAll}
 use Rattle.strokes.specs.Stroke.{stroke_cubic, ends_subpath, Style, Stroked}
 
-found_one : {A : Type 0} (a b : A) → found a ≡ found b → a ≡ b
+found_one : {A : Type 0} (a b : A) → ◌≡◌ {A = Read A} (Ok a) (Ok b) → a ≡ b
 found_one a b h = cc
 
 -- ---- the tag behind a segment, by its own points
-neighbor_found : (layout : Layout) (scene prefixes : List ℕ) (ix : ℕ) (t : PathTagData) (n : Neighbor) → tag_at layout scene prefixes ix ≡ found t → neighbor_at layout scene prefixes ix ≡ found n
+neighbor_found : (layout : Layout) (scene prefixes : List ℕ) (ix : ℕ) (t : PathTagData) (n : Neighbor) → tag_at layout scene prefixes ix ≡ Ok t → neighbor_at layout scene prefixes ix ≡ Ok n
     → neighbor_of t.tag_byte (cubic_of (t.tag_byte % 4) (marker t.tag_byte true) scene (wide t.tag_byte) (layout.data_base + t.monoid.pathseg_offset)) ≡ n
-unfolding neighbor_at ◌>>=◌
+unfolding neighbor_at
 neighbor_found layout scene prefixes ix t n e h =
-    let p = came (points_at layout scene true t) (λ ps. found (neighbor_of t.tag_byte ps)) n (rw e at h) in
+    let p = came (points_at layout scene true t) (λ ps. Ok (neighbor_of t.tag_byte ps)) n (rw e at h) in
     rw (points_found layout scene true t p.value p.first) (found_one _ n p.then)
 
 -- ---- a segment that goes on, and a marker
 module _ (layout : Layout) (scene prefixes : List ℕ) (ix : ℕ) (h : Head) (w : ℕ) (es : List Event)
     (segment : eqb (h.tag.tag_byte % 4) 0 ≡ false) (stroke : is_stroke h ≡ true)
-    (width : width_of scene layout.style_base h.tag.monoid.style_ix ≡ found w)
-    (is : events_at layout scene prefixes ix h ≡ found es) where
-  goes_events : (t : PathTagData) → eqb (bit h.tag.tag_byte 0x04) 1 ≡ false → tag_at layout scene prefixes ((ix + 1) % 2 ^ 64) ≡ found t
+    (width : width_of scene layout.style_base h.tag.monoid.style_ix ≡ Ok w)
+    (is : events_at layout scene prefixes ix h ≡ Ok es) where
+  goes_events : (t : PathTagData) → eqb (bit h.tag.tag_byte 0x04) 1 ≡ false → tag_at layout scene prefixes ((ix + 1) % 2 ^ 64) ≡ Ok t
       → stroke_events h.flags (floats_at scene (layout.transform_base + h.tag.monoid.trans_ix * 6))
       (cubic_of (h.tag.tag_byte % 4) (marker h.tag.tag_byte true) scene (wide h.tag.tag_byte) (layout.data_base + h.tag.monoid.pathseg_offset)) (of_bits binary32 w)
       (neighbor_of t.tag_byte (cubic_of (t.tag_byte % 4) (marker t.tag_byte true) scene (wide t.tag_byte) (layout.data_base + t.monoid.pathseg_offset)))
       ≡ es
-  unfolding shape_at stroke_at stroke_by shape_events ◌>>=◌
+  unfolding shape_at stroke_at stroke_by shape_events
   goes_events t end tag =
       let p = parts layout scene prefixes ix h es segment is in
-      let n = came (neighbor_at layout scene prefixes ((ix + 1) % 2 ^ 64)) (λ m. found (Stroke (of_bits binary32 w) m)) p.shape (rw (stroke, width, end) at p.read) in
+      let n = came (neighbor_at layout scene prefixes ((ix + 1) % 2 ^ 64)) (λ m. Ok (Stroke (of_bits binary32 w) m)) p.shape (rw (stroke, width, end) at p.read) in
       rw (neighbor_found layout scene prefixes ((ix + 1) % 2 ^ 64) t n.value tag n.first) (rw (sym (found_one _ p.shape n.then), stroke) at p.drawn)
 
   cap_events_lem : eqb (bit h.tag.tag_byte 0x04) 1 ≡ true → eqb (h.tag.tag_byte % 4) 1 ≡ false
       → start_cap_events h.flags (floats_at scene (layout.transform_base + h.tag.monoid.trans_ix * 6))
       (cubic_of (h.tag.tag_byte % 4) (marker h.tag.tag_byte true) scene (wide h.tag.tag_byte) (layout.data_base + h.tag.monoid.pathseg_offset)) (of_bits binary32 w)
       ≡ es
-  unfolding shape_at stroke_at stroke_by shape_events ◌>>=◌
+  unfolding shape_at stroke_at stroke_by shape_events
   cap_events_lem end line-not =
       let p = parts layout scene prefixes ix h es segment is in
       rw (sym (found_one _ p.shape (rw (stroke, width, end, line-not) at p.read)), stroke) at p.drawn
@@ -98,7 +98,7 @@ module _ (c : Call) (s : Style) (z : List ℕ) (k : ℕ) (st : Stroked c s z k) 
   stroke_drawn u l end behind =
       let sum : k + 1 ≡ suc k = omega arith in
       let ix : (k + 1) % 2 ^ 64 ≡ suc k = mod-eq_of_lt (omega arith) ∙ sum in
-      let tag : tag_at c.layout c.scene c.prefixes ((k + 1) % 2 ^ 64) ≡ found (head_of c (suc k)).tag =
+      let tag : tag_at c.layout c.scene c.prefixes ((k + 1) % 2 ^ 64) ≡ Ok (head_of c (suc k)).tag =
       ap (tag_at c.layout c.scene c.prefixes) ix ∙ (head_parts c.layout c.scene c.prefixes (length c.boxes) (suc k) (head_of c (suc k)) behind.head).tag in
       carry s.flags (floats_at z 0) _ st.flags its_transform
       (goes_events c.layout c.scene c.prefixes k (head_of c k) s.width (drawn_at c k) st.segment is_stroke_lem st.width sound.events (head_of c (suc k)).tag end tag)

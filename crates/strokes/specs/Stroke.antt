@@ -1,5 +1,5 @@
 -- An open stroke subpath of a call, and what is asked of it. Definitions only.
-use Rattle.std.specs.Prelude.{ℕ, zero, suc, ◌+◌, ◌%◌, ◌<◌, ◌≤◌, ◌≡◌, Bool, true, false, ◌&&◌, ◌||◌, cond, List, [], ◌∷◌, ◌++◌, T, eqb, Float}
+use Rattle.std.specs.Prelude.{ℕ, zero, suc, ◌+◌, ◌%◌, ◌<◌, ◌≤◌, ◌≡◌, Bool, true, false, ◌&&◌, ◌||◌, cond, List, [], ◌∷◌, ◌++◌, T, eqb, Float, Ok}
 use Rattle.std.specs.Int.Bits.{bit_and}
 use Rattle.std.specs.Float.{binary32}
 use Rattle.std.specs.Float.Ieee.{of_bits, lt}
@@ -13,7 +13,6 @@ use Rattle.drawing.specs.declared.join.Corners.{Corners}
 use Rattle.segment.specs.Segment.{steady_of, tangents_of, edges_of}
 use Rattle.scene.specs.Tags.{bit}
 use Rattle.scene.specs.Reading.{wide, marker, cubic_of, floats_at, width_of}
-use Rattle.refusals.specs.Refusals.{found}
 use Rattle.watertight.specs.Fill.{Call, tags, head_of, type_of, first_of, transform_words, Meets, stored_by}
 use Rattle.strokes.specs.Number.{keys_are}
 
@@ -66,7 +65,7 @@ pub record Stroked (c : Call) (s : Style) (z : List ℕ) (i : ℕ) : Type 0 wher
   pub in_call : i < tags c
   pub segment : eqb (type_of c i) 0 ≡ false
   pub flags : (head_of c i).flags ≡ s.flags
-  pub width : width_of c.scene c.layout.style_base (head_of c i).tag.monoid.style_ix ≡ found s.width
+  pub width : width_of c.scene c.layout.style_base (head_of c i).tag.monoid.style_ix ≡ Ok s.width
   pub transform : transform_words c i ≡ z
 
 -- ---- an open stroke subpath: n segments, which are the tags from i on, and directly behind them its cap marker, tag i + n

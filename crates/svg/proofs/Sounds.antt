@@ -33,12 +33,6 @@ arity_pos Line = omega arith
 arity_pos Quad = omega arith
 arity_pos Cubic = omega arith
 
-pub arity_le : (k : Kind) → arity k ≤ 6
-arity_le Move = omega arith
-arity_le Line = omega arith
-arity_le Quad = omega arith
-arity_le Cubic = omega arith
-
 next_way : (a h : ℕ) (t : Bool) → eqb (h + 1) a ≡ t → 0 < a → h < a → pick t 0 (h + 1) < a
 next_way a h true e p l = p
 next_way a h false e p l = let n = eqb-false (h + 1) a e in omega arith

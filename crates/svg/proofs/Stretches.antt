@@ -18,11 +18,11 @@ use Rattle.svg.specs.declared.steps.State.{State}
 use Rattle.svg.specs.declared.steps.Step.{Step}
 use Rattle.svg.specs.declared.steps.Step.TheVariants.{Go}
 use Rattle.svg.specs.declared.hand.Hand.{Hand}
-use Rattle.svg.specs.declared.reader.Way.TheVariants.{On}
+use Rattle.std.specs.Prelude.{Ok}
 use Rattle.svg.specs.Language.{digit_byte, symbol_of, mark_of, symbols}
 use Rattle.svg.specs.Machine.{num, st, moved, ended, whole_ends, fraction_ends, digit_of, Sound}
 use Rattle.svg.specs.Walk.{walk, Left, left, act_by, read_into}
-use Rattle.svg.specs.Stretch.{has_digit, has_point, before_point, behind_point, in_whole, in_fraction, Grows, Onward, Digits}
+use Rattle.svg.specs.Stretch.{has_point, before_point, behind_point, in_whole, in_fraction, Grows, Onward, Digits}
 use Rattle.svg.proofs.Reading.{pick_yes, pick_no, both, symbol_digit, digit_bounds}
 use Rattle.svg.proofs.Places.{no_false}
 use Rattle.svg.proofs.Sounds.{SoundStep, digit_small, moved_sound}
@@ -45,10 +45,10 @@ onward_then a b =
 module _ (text : List ℕ) (i : ℕ) (y : Symbol) (l : i < length text) (e : y ≡ symbol_of (get_or text i 0)) where
   -- a symbol that ends no number does what the table says
   symbol_read : (s : State) → ended s.place y ≡ false → (h : Hand) (pen : Pen) (tags points : List ℕ)
-      → read_into i (left (On (walk s h pen)) tags points) (symbols (drop i text)) ≡ read_into (i + 1) (act_by h pen i (moved s i y) tags points) (symbols (drop (i + 1) text))
+      → read_into i (left (Ok (walk s h)) pen tags points) (symbols (drop i text)) ≡ read_into (i + 1) (act_by h pen i (moved s i y) tags points) (symbols (drop (i + 1) text))
   unfolding read_into
   symbol_read s n h pen tags points =
-      ap (λ ys. read_into i (left (On (walk s h pen)) tags points) ys) (unread text i y e l)
+      ap (λ ys. read_into i (left (Ok (walk s h)) pen tags points) ys) (unread text i y e l)
       ∙ ap (λ (o : Left). read_into (i + 1) o (symbols (drop (i + 1) text))) (pick_no _ _ _ n)
 
   onward_one : (s t : State) → Sound s → ended s.place y ≡ false → moved s i y ≡ Go t → Onward text s i t (i + 1)
@@ -75,12 +75,6 @@ module _ (text : List ℕ) (i : ℕ) (y : Symbol) (l : i < length text) (e : y �
       }
 
 -- ---- digits
-
-pub digit_told : (text : List ℕ) (i c : ℕ) → has_digit text i c ≡ true → (i < length text) × (c < 9) × (digit_byte (get_or text i 0) ≡ true)
-digit_told text i c e =
-    let a = both (ltb i (length text)) _ e in
-    let b = both (ltb c 9) _ a.1 in
-    (ltb-true i (length text) a.0, ltb-true c 9 b.0, b.1)
 
 pub point_told : (text : List ℕ) (i : ℕ) → has_point text i ≡ true → (i < length text) × (get_or text i 0 ≡ 46)
 point_told text i e = let a = both (ltb i (length text)) _ e in (ltb-true i (length text) a.0, eqb-true (get_or text i 0) 46 a.1)

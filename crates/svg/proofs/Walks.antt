@@ -18,18 +18,17 @@ use Rattle.svg.specs.declared.steps.State.{State}
 use Rattle.svg.specs.declared.steps.Step.{Step}
 use Rattle.svg.specs.declared.steps.Step.TheVariants.{Go}
 use Rattle.svg.specs.declared.hand.Hand.{Hand}
-use Rattle.svg.specs.declared.reader.Ending.TheVariants.{Undrawn}
-use Rattle.svg.specs.declared.reader.Done.{Done}
+use Rattle.svg.specs.declared.reader.Refusal.{Refusal}
 use Rattle.svg.specs.declared.reader.Walk.{Walk}
-use Rattle.svg.specs.declared.reader.Way.{Way}
-use Rattle.svg.specs.declared.reader.Way.TheVariants.{On, Over}
+use Rattle.std.specs.Prelude.{Ok, Err}
+use Rattle.pattern.specs.Commands.{Answer}
 use Rattle.svg.specs.Language.{pick, arity, symbol_of, mark_of, letter_of, digit_byte, white_byte, symbols}
 use Rattle.svg.specs.Machine.{number_of, moved, ended, finished, in_number, digit_of}
 use Rattle.svg.specs.Machine.{Sound as SoundState}
 use Rattle.svg.specs.Meaning.{word_of}
 use Rattle.svg.specs.Hands.{command_by, counted, onward}
-use Rattle.svg.specs.Import.{told, import_of}
-use Rattle.svg.specs.Walk.{walk, read_by, Left, left, settled, number_by, act_by, then_step, one_by, last_by, read_into, start_of, Sound}
+use Rattle.svg.specs.Import.{Ending, told, import_of}
+use Rattle.svg.specs.Walk.{walk, Way, Left, left, way_of, settled, number_by, act_by, then_step, one_by, last_by, read_into, beginning, Sound}
 use Rattle.svg.specs.Stretch.{Onward}
 use Rattle.svg.proofs.Reading.{pick_yes, pick_no, digit_bounds}
 use Rattle.svg.proofs.Places.{fresh}
@@ -64,37 +63,37 @@ byte_digit b = byte_way b (digit_byte b) refl
 
 -- ---- the loop
 
-pub record Here (text : List ℕ) (pen₀ : Pen) (tags₀ points₀ tags points : List ℕ) (w : Walk) (i : ℕ) : Type 0 where
+pub record Here (text : List ℕ) (pen₀ : Pen) (tags₀ points₀ : List ℕ) (pen : Pen) (tags points : List ℕ) (w : Walk) (i : ℕ) : Type 0 where
   pub within : i ≤ length text
   pub sound : Sound w
   pub same_tags : length tags ≡ length tags₀
   pub same_points : length points ≡ length points₀
-  pub rest : read_into i (left (On w) tags points) (symbols (drop i text)) ≡ import_of text pen₀ tags₀ points₀
+  pub rest : read_into i (left (Ok w) pen tags points) (symbols (drop i text)) ≡ import_of text pen₀ tags₀ points₀
 
 -- ---- behind a number
 
 state_or : State → Left → State
-state_or s (left (On v) tags points) = v.state
-state_or s (left (Over r) tags points) = s
+state_or s (left (Ok v) pen tags points) = v.state
+state_or s (left (Err r) pen tags points) = s
 
-way_state : (t : Bool) (s : State) (h : Hand) (pen : Pen) (r : Done) (tags points : List ℕ) → state_or s (left (pick t (On (walk s h pen)) (Over r)) tags points) ≡ s
+way_state : (a : Answer) (i : ℕ) (s : State) (h : Hand) (pen : Pen) (tags points : List ℕ) → state_or s (left (way_of a i s h) pen tags points) ≡ s
 unfolding state_or
-way_state true s h pen r tags points = refl
-way_state false s h pen r tags points = refl
+way_state (Ok x) i s h pen tags points = refl
+way_state (Err f) i s h pen tags points = refl
 
 either_state : (t : Bool) (s : State) (a b : Left) → state_or s a ≡ s → state_or s b ≡ s → state_or s (pick t a b) ≡ s
 either_state true s a b A B = A
 either_state false s a b A B = B
 
-number_state : (w v : Walk) (i : ℕ) (tags points ts ps : List ℕ) → left (On v) ts ps ≡ number_by w i tags points → v.state ≡ finished w.state
+number_state : (w v : Walk) (i : ℕ) (pen : Pen) (tags points : List ℕ) (pen' : Pen) (ts ps : List ℕ) → left (Ok v) pen' ts ps ≡ number_by w i pen tags points → v.state ≡ finished w.state
 unfolding state_or
-number_state w v i tags points ts ps k =
+number_state w v i pen tags points pen' ts ps k =
     let s = finished w.state in
     let h = counted w.hand (word_of (number_of w.state.num)) in
-    let o = command_by h w.pen tags points in
+    let o = command_by h pen tags points in
     ap (state_or s) k
-    ∙ either_state (eqb h.have (arity h.kind)) s (settled o i s (onward h)) (left (On (walk s h w.pen)) tags points)
-    (way_state (eqb o.number 0) s (onward h) o.pen (read_by (Undrawn o.number i) o.pen) o.tags o.points) refl
+    ∙ either_state (eqb h.have (arity h.kind)) s (settled o i s (onward h)) (left (Ok (walk s h)) pen tags points)
+    (way_state o.answer i s (onward h) o.pen o.tags o.points) refl
 
 -- ---- what is left to do: two for each byte, and one for a number that stands there
 abbrev at_number : Place → ℕ
@@ -118,14 +117,14 @@ ended_in AtGap y e = absurd (false≢true e)
 ended_in AtComma y e = absurd (false≢true e)
 ended_in AtClose y e = absurd (false≢true e)
 
-pub here_start : (text : List ℕ) (pen : Pen) (tags points : List ℕ) (w : Walk) → w ≡ start_of pen → Here text pen tags points tags points w 0
+pub here_start : (text : List ℕ) (pen : Pen) (tags points : List ℕ) (w : Walk) → w ≡ beginning → Here text pen tags points pen tags points w 0
 here_start text pen tags points w e =
     record {
       within = omega arith;
       sound = subst (λ (w : Walk). Sound w) (sym e) (record { state = record { group = omega arith; held = fresh false 0 }; hand = omega arith });
       same_tags = refl;
       same_points = refl;
-      rest = ap (λ (w : Walk). read_into 0 (left (On w) tags points) (symbols text)) e ∙ import_is text pen tags points;
+      rest = ap (λ (w : Walk). read_into 0 (left (Ok w) pen tags points) (symbols text)) e ∙ import_is text pen tags points;
     }
 
 pub unread : (text : List ℕ) (i : ℕ) (y : Symbol) → y ≡ symbol_of (get_or text i 0) → i < length text → symbols (drop i text) ≡ y ∷ symbols (drop (i + 1) text)
@@ -135,94 +134,94 @@ unread text i y e l =
     ∙ ap (λ (y : Symbol). y ∷ symbols (drop (suc i) text)) (sym e)
     ∙ ap (λ (j : ℕ). y ∷ symbols (drop j text)) (sym (add-one i))
 
-module _ {text : List ℕ} {pen₀ : Pen} {tags₀ points₀ tags points : List ℕ} {w : Walk} {i : ℕ} (h : Here text pen₀ tags₀ points₀ tags points w i) where
+module _ {text : List ℕ} {pen₀ : Pen} {tags₀ points₀ : List ℕ} {pen : Pen} {tags points : List ℕ} {w : Walk} {i : ℕ} (h : Here text pen₀ tags₀ points₀ pen tags points w i) where
   -- the step that was taken, and what is left then
-  read_one : (v : Way) (ts ps : List ℕ) (y : Symbol) → i < length text → y ≡ symbol_of (get_or text i 0) → left v ts ps ≡ one_by w i y tags points
-      → read_into (i + 1) (left v ts ps) (symbols (drop (i + 1) text)) ≡ import_of text pen₀ tags₀ points₀
+  read_one : (v : Way) (pen' : Pen) (ts ps : List ℕ) (y : Symbol) → i < length text → y ≡ symbol_of (get_or text i 0) → left v pen' ts ps ≡ one_by w i y pen tags points
+      → read_into (i + 1) (left v pen' ts ps) (symbols (drop (i + 1) text)) ≡ import_of text pen₀ tags₀ points₀
   unfolding read_into
-  read_one v ts ps y l e o =
+  read_one v pen' ts ps y l e o =
       ap (λ (o : Left). read_into (i + 1) o (symbols (drop (i + 1) text))) o
-      ∙ ap (λ (ys : List Symbol). read_into i (left (On w) tags points) ys) (sym (unread text i y e l))
+      ∙ ap (λ (ys : List Symbol). read_into i (left (Ok w) pen tags points) ys) (sym (unread text i y e l))
       ∙ h.rest
 
-  pub here_step : (v : Walk) (q : Way) (ts ps : List ℕ) (y : Symbol) → i < length text → y ≡ symbol_of (get_or text i 0) → length ts ≡ length tags → length ps ≡ length points
-      → left q ts ps ≡ one_by w i y tags points → q ≡ On v → Here text pen₀ tags₀ points₀ ts ps v (i + 1)
-  here_step v q ts ps y l e st sp o f =
+  pub here_step : (v : Walk) (q : Way) (pen' : Pen) (ts ps : List ℕ) (y : Symbol) → i < length text → y ≡ symbol_of (get_or text i 0) → length ts ≡ length tags → length ps ≡ length points
+      → left q pen' ts ps ≡ one_by w i y pen tags points → q ≡ Ok v → Here text pen₀ tags₀ points₀ pen' ts ps v (i + 1)
+  here_step v q pen' ts ps y l e st sp o f =
       record {
         within = omega arith;
-        sound = subst (λ (o : Left). SoundLeft o) (sym o ∙ ap (λ (q : Way). left q ts ps) f) (one_sound w i y tags points h.sound (subst (λ (y : Symbol). digit_of y ≤ 9) (sym e) (byte_digit (get_or text i 0))));
+        sound = subst (λ (o : Left). SoundLeft o) (sym o ∙ ap (λ (q : Way). left q pen' ts ps) f) (one_sound w i y pen tags points h.sound (subst (λ (y : Symbol). digit_of y ≤ 9) (sym e) (byte_digit (get_or text i 0))));
         same_tags = st ∙ h.same_tags;
         same_points = sp ∙ h.same_points;
-        rest = ap (λ (q : Way). read_into (i + 1) (left q ts ps) (symbols (drop (i + 1) text))) (sym f) ∙ read_one q ts ps y l e o;
+        rest = ap (λ (q : Way). read_into (i + 1) (left q pen' ts ps) (symbols (drop (i + 1) text))) (sym f) ∙ read_one q pen' ts ps y l e o;
       }
 
-  pub here_over : (r : Done) (q : Way) (ts ps : List ℕ) (y : Symbol) → i < length text → y ≡ symbol_of (get_or text i 0) → left q ts ps ≡ one_by w i y tags points → q ≡ Over r
-      → told r ts ps ≡ import_of text pen₀ tags₀ points₀
-  here_over r q ts ps y l e o f =
-      sym (stays (symbols (drop (i + 1) text)) (i + 1) r ts ps)
-      ∙ ap (λ (q : Way). read_into (i + 1) (left q ts ps) (symbols (drop (i + 1) text))) (sym f)
-      ∙ read_one q ts ps y l e o
+  pub here_over : (r : Refusal) (q : Way) (pen' : Pen) (ts ps : List ℕ) (y : Symbol) → i < length text → y ≡ symbol_of (get_or text i 0) → left q pen' ts ps ≡ one_by w i y pen tags points → q ≡ Err r
+      → told (Err r) pen' ts ps ≡ import_of text pen₀ tags₀ points₀
+  here_over r q pen' ts ps y l e o f =
+      sym (stays (symbols (drop (i + 1) text)) (i + 1) r pen' ts ps)
+      ∙ ap (λ (q : Way). read_into (i + 1) (left q pen' ts ps) (symbols (drop (i + 1) text))) (sym f)
+      ∙ read_one q pen' ts ps y l e o
 
-  pub here_end : (r : Done) (ts ps : List ℕ) → length text ≤ i → told r ts ps ≡ last_by w i tags points → told r ts ps ≡ import_of text pen₀ tags₀ points₀
+  pub here_end : (q : Ending) (pen' : Pen) (ts ps : List ℕ) → length text ≤ i → told q pen' ts ps ≡ last_by w i pen tags points → told q pen' ts ps ≡ import_of text pen₀ tags₀ points₀
   unfolding read_into symbols
-  here_end r ts ps l o =
+  here_end q pen' ts ps l o =
       o
-      ∙ ap (λ (ys : List Symbol). read_into i (left (On w) tags points) ys) (sym (ap symbols (ap (λ (j : ℕ). drop j text) (le_antisymm h.within l) ∙ drop-length text)))
+      ∙ ap (λ (ys : List Symbol). read_into i (left (Ok w) pen tags points) ys) (sym (ap symbols (ap (λ (j : ℕ). drop j text) (le_antisymm h.within l) ∙ drop-length text)))
       ∙ h.rest
 
   -- a byte that ends a number is looked at again, behind the number
-  pub here_number : (v : Walk) (q : Way) (ts ps : List ℕ) (y : Symbol) → i < length text → y ≡ symbol_of (get_or text i 0) → ended w.state.place y ≡ true → length ts ≡ length tags → length ps ≡ length points
-      → left q ts ps ≡ number_by w i tags points → q ≡ On v → Here text pen₀ tags₀ points₀ ts ps v i
+  pub here_number : (v : Walk) (q : Way) (pen' : Pen) (ts ps : List ℕ) (y : Symbol) → i < length text → y ≡ symbol_of (get_or text i 0) → ended w.state.place y ≡ true → length ts ≡ length tags → length ps ≡ length points
+      → left q pen' ts ps ≡ number_by w i pen tags points → q ≡ Ok v → Here text pen₀ tags₀ points₀ pen' ts ps v i
   unfolding read_into
-  here_number v q ts ps y l e n st sp o f =
-      let k : left (On v) ts ps ≡ number_by w i tags points = ap (λ (q : Way). left q ts ps) (sym f) ∙ o in
-      let gap : ended v.state.place y ≡ false = ap (λ (s : State). ended s.place y) (number_state w v i tags points ts ps k) in
-      let again : one_by v i y ts ps ≡ one_by w i y tags points =
+  here_number v q pen' ts ps y l e n st sp o f =
+      let k : left (Ok v) pen' ts ps ≡ number_by w i pen tags points = ap (λ (q : Way). left q pen' ts ps) (sym f) ∙ o in
+      let gap : ended v.state.place y ≡ false = ap (λ (s : State). ended s.place y) (number_state w v i pen tags points pen' ts ps k) in
+      let again : one_by v i y pen' ts ps ≡ one_by w i y pen tags points =
       pick_no _ _ _ gap ∙ ap (λ (o : Left). then_step o i y) k ∙ sym (pick_yes _ _ _ n) in
       record {
         within = h.within;
-        sound = subst (λ (o : Left). SoundLeft o) (sym k) (number_sound w i tags points h.sound);
+        sound = subst (λ (o : Left). SoundLeft o) (sym k) (number_sound w i pen tags points h.sound);
         same_tags = st ∙ h.same_tags;
         same_points = sp ∙ h.same_points;
         rest =
-            ap (λ (ys : List Symbol). read_into i (left (On v) ts ps) ys) (unread text i y e l)
+            ap (λ (ys : List Symbol). read_into i (left (Ok v) pen' ts ps) ys) (unread text i y e l)
             ∙ ap (λ (o : Left). read_into (i + 1) o (symbols (drop (i + 1) text))) again
-            ∙ ap (λ (ys : List Symbol). read_into i (left (On w) tags points) ys) (sym (unread text i y e l))
+            ∙ ap (λ (ys : List Symbol). read_into i (left (Ok w) pen tags points) ys) (sym (unread text i y e l))
             ∙ h.rest;
       }
 
-  pub less_number : (v : Walk) (q : Way) (ts ps : List ℕ) (y : Symbol) → ended w.state.place y ≡ true → left q ts ps ≡ number_by w i tags points → q ≡ On v → to_go text v i < to_go text w i
-  less_number v q ts ps y e o f =
-      let k : left (On v) ts ps ≡ number_by w i tags points = ap (λ (q : Way). left q ts ps) (sym f) ∙ o in
-      let a : at_number v.state.place ≡ 0 = ap (λ (s : State). at_number s.place) (number_state w v i tags points ts ps k) in
+  pub less_number : (v : Walk) (q : Way) (pen' : Pen) (ts ps : List ℕ) (y : Symbol) → ended w.state.place y ≡ true → left q pen' ts ps ≡ number_by w i pen tags points → q ≡ Ok v → to_go text v i < to_go text w i
+  less_number v q pen' ts ps y e o f =
+      let k : left (Ok v) pen' ts ps ≡ number_by w i pen tags points = ap (λ (q : Way). left q pen' ts ps) (sym f) ∙ o in
+      let a : at_number v.state.place ≡ 0 = ap (λ (s : State). at_number s.place) (number_state w v i pen tags points pen' ts ps k) in
       omega (arith, a, ended_in w.state.place y e)
 
   -- a byte that is read; the equations name the state and the reader behind it
-  pub less_go : (s t : State) (j : ℕ) → Onward text s (i + 1) t j → i < length text → to_go text (walk t w.hand w.pen) j < to_go text w i
+  pub less_go : (s t : State) (j : ℕ) → Onward text s (i + 1) t j → i < length text → to_go text (walk t w.hand) j < to_go text w i
   less_go s t j o l = let on = o.on in omega (arith, at_most (in_number t.place))
 
-  pub less_on : (v : Walk) (q : Way) → q ≡ On v → i < length text → to_go text v (i + 1) < to_go text w i
+  pub less_on : (v : Walk) (q : Way) → q ≡ Ok v → i < length text → to_go text v (i + 1) < to_go text w i
   less_on v q e l = omega (arith, at_most (in_number v.state.place))
 
-  pub over_number : (r : Done) (q : Way) (ts ps : List ℕ) (y : Symbol) → i < length text → y ≡ symbol_of (get_or text i 0) → ended w.state.place y ≡ true → left q ts ps ≡ number_by w i tags points → q ≡ Over r
-      → told r ts ps ≡ import_of text pen₀ tags₀ points₀
-  over_number r q ts ps y l e n o f =
-      let k : left (Over r) ts ps ≡ number_by w i tags points = ap (λ (q : Way). left q ts ps) (sym f) ∙ o in
-      here_over r (Over r) ts ps y l e (rw n (ap (λ (o : Left). then_step o i y) k)) refl
+  pub over_number : (r : Refusal) (q : Way) (pen' : Pen) (ts ps : List ℕ) (y : Symbol) → i < length text → y ≡ symbol_of (get_or text i 0) → ended w.state.place y ≡ true → left q pen' ts ps ≡ number_by w i pen tags points → q ≡ Err r
+      → told (Err r) pen' ts ps ≡ import_of text pen₀ tags₀ points₀
+  over_number r q pen' ts ps y l e n o f =
+      let k : left (Err r) pen' ts ps ≡ number_by w i pen tags points = ap (λ (q : Way). left q pen' ts ps) (sym f) ∙ o in
+      here_over r (Err r) pen' ts ps y l e (rw n (ap (λ (o : Left). then_step o i y) k)) refl
 
   -- what a byte does that ends none
   module _ (y : Symbol) (n : ended w.state.place y ≡ false) (taken : Step) (t : taken ≡ moved w.state i y) where
-    pub as_one : (q : Way) (ts ps : List ℕ) → left q ts ps ≡ act_by w.hand w.pen i taken tags points → left q ts ps ≡ one_by w i y tags points
-    as_one q ts ps o = o ∙ rw (n, t)
+    pub as_one : (q : Way) (pen' : Pen) (ts ps : List ℕ) → left q pen' ts ps ≡ act_by w.hand pen i taken tags points → left q pen' ts ps ≡ one_by w i y pen tags points
+    as_one q pen' ts ps o = o ∙ rw (n, t)
 
-    here_go : (s : State) → i < length text → y ≡ symbol_of (get_or text i 0) → taken ≡ Go s → Here text pen₀ tags₀ points₀ tags points (walk s w.hand w.pen) (i + 1)
-    here_go s l e g = here_step (walk s w.hand w.pen) (On (walk s w.hand w.pen)) tags points y l e refl refl (as_one (On (walk s w.hand w.pen)) tags points (rw g)) refl
+    here_go : (s : State) → i < length text → y ≡ symbol_of (get_or text i 0) → taken ≡ Go s → Here text pen₀ tags₀ points₀ pen tags points (walk s w.hand) (i + 1)
+    here_go s l e g = here_step (walk s w.hand) (Ok (walk s w.hand)) pen tags points y l e refl refl (as_one (Ok (walk s w.hand)) pen tags points (rw g)) refl
 
     pub go_sound : (s : State) → i < length text → y ≡ symbol_of (get_or text i 0) → taken ≡ Go s → SoundState s × (i + 1 ≤ length text)
     go_sound s l e g = let here = here_go s l e g in (here.sound.state, here.within)
 
     -- a byte that is read, and what stands behind it at a stretch
-    pub here_on : (s t : State) (j : ℕ) → i < length text → y ≡ symbol_of (get_or text i 0) → taken ≡ Go s → Onward text s (i + 1) t j → Here text pen₀ tags₀ points₀ tags points (walk t w.hand w.pen) j
+    pub here_on : (s t : State) (j : ℕ) → i < length text → y ≡ symbol_of (get_or text i 0) → taken ≡ Go s → Onward text s (i + 1) t j → Here text pen₀ tags₀ points₀ pen tags points (walk t w.hand) j
     here_on s t j l e g o =
         let here = here_go s l e g in
         record {
@@ -230,5 +229,5 @@ module _ {text : List ℕ} {pen₀ : Pen} {tags₀ points₀ tags points : List 
           sound = record { state = o.sound; hand = here.sound.hand };
           same_tags = here.same_tags;
           same_points = here.same_points;
-          rest = sym (o.same w.hand w.pen tags points) ∙ here.rest;
+          rest = sym (o.same w.hand pen tags points) ∙ here.rest;
         }

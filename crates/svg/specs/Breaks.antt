@@ -1,7 +1,8 @@
 -- Where a text is refused with 60: the bytes before the one that is told begin a text of the language, and with it they begin none (`stop_byte`). Assumes nothing.
-use Rattle.std.specs.Prelude.{◌≡◌, refl, Bool, true, false, List, [], ◌∷◌, ◌++◌, ℕ, zero, suc, ◌+◌, ◌≤◌, ◌<◌, eqb, ltb, length, take}
+use Rattle.std.specs.Prelude.{◌≡◌, refl, Bool, true, false, List, [], ◌∷◌, ◌++◌, ℕ, zero, suc, ◌+◌, ◌≤◌, ◌<◌, eqb, ltb, length, take, Err}
 use Rattle.std.proofs.Common.{sym, ap, ◌∙◌, subst, arith}
 use Rattle.pattern.specs.declared.pen.Pen.{Pen}
+use Rattle.pattern.specs.Commands.{Answer}
 use Rattle.svg.specs.declared.steps.Kind.{Kind}
 use Rattle.svg.specs.declared.steps.Kind.TheVariants.{Move, Line, Quad, Cubic}
 use Rattle.svg.specs.declared.steps.Symbol.{Symbol}
@@ -14,10 +15,8 @@ use Rattle.svg.specs.declared.steps.Fault.{Fault}
 use Rattle.svg.specs.declared.steps.Fault.TheVariants.{NotInLanguage, TooLong}
 use Rattle.svg.specs.declared.steps.Step.{Step}
 use Rattle.svg.specs.declared.steps.Step.TheVariants.{Go, Lettered, Shut, Bad}
-use Rattle.svg.specs.declared.steps.Verdict.{Verdict}
-use Rattle.svg.specs.declared.steps.Verdict.TheVariants.{Accepted as Text, Refused}
-use Rattle.svg.specs.declared.reader.Ending.{Ending}
-use Rattle.svg.specs.declared.reader.Ending.TheVariants.{Faulty}
+use Rattle.svg.specs.Machine.{Verdict, Accepted as Text, Refused}
+use Rattle.svg.specs.declared.reader.Refusal.TheVariants.{Faulty}
 use Rattle.svg.specs.Language.{pick, by, Item, symbols, symbol_of, next}
 use Rattle.svg.specs.Language.{Text as IsText}
 use Rattle.svg.specs.Machine.{num, whole_digit, fraction_digit, first_letter, opening, move, moved, finished, ended, in_number, last, begun}
@@ -27,7 +26,7 @@ use Rattle.svg.specs.Unique.{end_of as verdict_of}
 use Rattle.svg.specs.GoesOn.{after, no_text_goes_on, never, text_verdict}
 use Rattle.svg.specs.First.{some_text_goes_on}
 use Rattle.svg.specs.Said.{end_in, run_is}
-use Rattle.svg.specs.Import.{import_of}
+use Rattle.svg.specs.Import.{Ending, import_of}
 use Rattle.svg.specs.Imports.{Ends, accepted, faulty, undrawn, run_of, import_stands}
 
 -- ---- the table tells its own byte
@@ -209,15 +208,15 @@ broken bs j e =
       no_text = λ is t. never (verdict_from 0 (Going begun) (symbols bs)) NotInLanguage j e (text_verdict bs is t);
     }
 
-by_fault : (e : Ending) (n : ℕ) (v : Verdict) (f : Fault) (j : ℕ) → Ends e n v → e ≡ Faulty f j → v ≡ Refused f j
+by_fault : (e : Ending) (a : Answer) (v : Verdict) (f : Fault) (j : ℕ) → Ends e a v → e ≡ Err (Faulty f j) → v ≡ Refused f j
 by_fault e n v f j accepted q = let z : ◌≡◌ {A = ℕ} 0 1 = cc in absurd (omega arith)
 by_fault e n v f j (faulty g i) q = cc
-by_fault e n v f j (undrawn m i w h) q = let z : ◌≡◌ {A = ℕ} 0 1 = cc in absurd (omega arith)
+by_fault e n v f j (undrawn g i w) q = let z : ◌≡◌ {A = ℕ} 0 1 = cc in absurd (omega arith)
 
 -- the verdict on a text that was refused by the language
-pub fault_verdict : (bs : List ℕ) (pen : Pen) (tags points : List ℕ) (f : Fault) (j : ℕ) → (import_of bs pen tags points).ending ≡ Faulty f j → verdict_from 0 (Going begun) (symbols bs) ≡ Refused f j
+pub fault_verdict : (bs : List ℕ) (pen : Pen) (tags points : List ℕ) (f : Fault) (j : ℕ) → (import_of bs pen tags points).ending ≡ Err (Faulty f j) → verdict_from 0 (Going begun) (symbols bs) ≡ Refused f j
 fault_verdict bs pen tags points f j e = sym (verdict_run bs) ∙ by_fault _ _ _ f j (import_stands pen tags points bs).ends e
 
 -- The byte told with 60 is the first after which no text of the language goes on, or the length where the text stops short.
-pub stop_byte : (bs : List ℕ) (pen : Pen) (tags points : List ℕ) (j : ℕ) → (import_of bs pen tags points).ending ≡ Faulty NotInLanguage j → Breaks bs j
+pub stop_byte : (bs : List ℕ) (pen : Pen) (tags points : List ℕ) (j : ℕ) → (import_of bs pen tags points).ending ≡ Err (Faulty NotInLanguage j) → Breaks bs j
 stop_byte bs pen tags points j e = broken bs j (fault_verdict bs pen tags points NotInLanguage j e)

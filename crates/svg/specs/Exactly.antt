@@ -15,8 +15,7 @@ use Rattle.svg.specs.declared.steps.State.{State}
 use Rattle.svg.specs.declared.steps.Fault.{Fault}
 use Rattle.svg.specs.declared.steps.Fault.TheVariants.{NotInLanguage, TooLong}
 use Rattle.svg.specs.declared.steps.Step.TheVariants.{Go, Lettered, Shut, Bad}
-use Rattle.svg.specs.declared.steps.Verdict.{Verdict}
-use Rattle.svg.specs.declared.steps.Verdict.TheVariants.{Accepted, Refused}
+use Rattle.svg.specs.Machine.{Verdict, Accepted, Refused}
 use Rattle.svg.specs.Language.{pick, dec, Item, letter, number, close, next, Signs, bare, sign, signed, negative, digits, onto, Number, plain, pointed, spell, value_of, Short, ends, spaces, blank, comma, Stage, opening, lettered, numbered, closed, Rest, nothing, begins, first, more, turns, closes, stops, opens, again, over, Text, symbols}
 use Rattle.svg.specs.Machine.{num, st, number_of, begun, gap_last}
 use Rattle.svg.specs.Fold.{Answer, answer, says, onward, run}

@@ -1,12 +1,11 @@
 -- Examples of the language and of decimals, computed. Assumes nothing.
-use Rattle.std.specs.Prelude.{◌≡◌, refl, true, false, List, [], ◌∷◌, ℕ}
+use Rattle.std.specs.Prelude.{◌≡◌, refl, true, false, List, [], ◌∷◌, ℕ, Err}
 use Rattle.std.specs.Float.{binary32}
 use Rattle.std.specs.Float.Ieee.{to_bits, round, of_bits}
 use Rattle.pattern.specs.Meaning.{fresh_pen}
 use Rattle.svg.specs.declared.steps.Fault.TheVariants.{NotInLanguage, TooLong}
 use Rattle.svg.specs.Fold.{Going}
-use Rattle.svg.specs.declared.steps.Verdict.{Verdict}
-use Rattle.svg.specs.declared.steps.Verdict.TheVariants.{Accepted, Refused}
+use Rattle.svg.specs.Machine.{Verdict, Accepted, Refused}
 use Rattle.svg.specs.Language.{symbols}
 use Rattle.svg.specs.Machine.{begun}
 use Rattle.svg.specs.Fold.{verdict_from}
@@ -16,7 +15,8 @@ use Rattle.pattern.specs.Commands.{draw as line-to}
 use Rattle.pattern.specs.declared.pen.Open.TheVariants.{Moved}
 use Rattle.scene.specs.Reading.{all_finite}
 use Rattle.svg.specs.declared.steps.Kind.TheVariants.{Move, Line}
-use Rattle.svg.specs.declared.reader.Ending.TheVariants.{Faulty, Undrawn}
+use Rattle.pattern.specs.declared.pen.Fault.TheVariants.{NoRoom}
+use Rattle.svg.specs.declared.reader.Refusal.TheVariants.{Faulty, Undrawn}
 use Rattle.svg.specs.Language.{dec, draw, close_path}
 use Rattle.svg.specs.Machine.{runs}
 use Rattle.svg.specs.Meaning.{meaning, drawn_from, all_of}
@@ -144,11 +144,11 @@ behind_z = refl
 
 -- 'M0 0L1 2.': M is drawn, and the line is not
 point_last_drawn : import_of (77 ∷ 48 ∷ 32 ∷ 48 ∷ 76 ∷ 49 ∷ 32 ∷ 50 ∷ 46 ∷ []) fresh_pen [] []
-    ≡ record { ending = Faulty NotInLanguage 9; pen = record { place = record { opened = Moved; first = spot 0 0; last = spot 0 0 }; tags = 0; points = 0 }; tags = []; points = [] }
+    ≡ record { ending = Err (Faulty NotInLanguage 9); pen = record { place = record { opened = Moved; first = spot 0 0; last = spot 0 0 }; tags = 0; points = 0 }; tags = []; points = [] }
 unfolding import_of import_from all_of symbols runs command_of number_of may_draw named inked fits written ink_of place_of finishing words_of floats_of all_finite to_bits of_bits decimal_of round
 point_last_drawn = refl
 
 -- 'M0 0L1 1' with no room for the line: 21 behind its last number, at the length
-no_room_lem : (import_of (77 ∷ 48 ∷ 32 ∷ 48 ∷ 76 ∷ 49 ∷ 32 ∷ 49 ∷ []) fresh_pen [] []).ending ≡ Undrawn 21 8
+no_room_lem : (import_of (77 ∷ 48 ∷ 32 ∷ 48 ∷ 76 ∷ 49 ∷ 32 ∷ 49 ∷ []) fresh_pen [] []).ending ≡ Err (Undrawn NoRoom 8)
 unfolding import_of import_from all_of symbols runs command_of number_of may_draw named inked fits written ink_of place_of finishing start_of spots words_of floats_of all_finite to_bits of_bits decimal_of round
 no_room_lem = refl

@@ -14,7 +14,7 @@ use Rattle.svg.specs.declared.steps.Fault.TheVariants.{TooLong}
 use Rattle.svg.specs.declared.steps.Step.{Step}
 use Rattle.svg.specs.declared.steps.Step.TheVariants.{Go, Lettered, Shut, Bad}
 use Rattle.svg.specs.Fold.{Turn, Going, Stopped}
-use Rattle.svg.specs.declared.steps.Verdict.TheVariants.{Accepted}
+use Rattle.svg.specs.Machine.{Accepted}
 use Rattle.svg.specs.Language.{pick, by, arity, next, Item, Text, symbols, symbol_of, mark_of, letter_of}
 use Rattle.svg.specs.Machine.{num, st, whole_digit, fraction_digit, first_letter, opening, move, moved, ended, finished, gap_last, begun}
 use Rattle.svg.specs.Fold.{settle, turn_of, run, verdict_from, Answer, answer}

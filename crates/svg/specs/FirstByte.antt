@@ -1,5 +1,5 @@
 -- Where a text is refused with 61: nothing of the number stands before the byte that is told (`first_of_number`). Assumes nothing.
-use Rattle.std.specs.Prelude.{◌≡◌, refl, Bool, true, false, List, [], ◌∷◌, ◌++◌, ℕ, suc, ◌+◌, eqb, ltb, length}
+use Rattle.std.specs.Prelude.{◌≡◌, refl, Bool, true, false, List, [], ◌∷◌, ◌++◌, ℕ, suc, ◌+◌, eqb, ltb, length, Err}
 use Rattle.std.proofs.Common.{sym, ap, ◌∙◌, subst, append_assoc, arith, length-append}
 use Rattle.pattern.specs.declared.pen.Pen.{Pen}
 use Rattle.svg.specs.declared.steps.Kind.{Kind}
@@ -14,8 +14,8 @@ use Rattle.svg.specs.declared.steps.Fault.{Fault}
 use Rattle.svg.specs.declared.steps.Fault.TheVariants.{NotInLanguage, TooLong}
 use Rattle.svg.specs.declared.steps.Step.{Step}
 use Rattle.svg.specs.declared.steps.Step.TheVariants.{Go, Lettered, Shut, Bad}
-use Rattle.svg.specs.declared.steps.Verdict.TheVariants.{Refused}
-use Rattle.svg.specs.declared.reader.Ending.TheVariants.{Faulty}
+use Rattle.svg.specs.Machine.{Refused}
+use Rattle.svg.specs.declared.reader.Refusal.TheVariants.{Faulty}
 use Rattle.svg.specs.Language.{pick, by, symbols, next}
 use Rattle.svg.specs.Machine.{num, whole_digit, fraction_digit, first_letter, opening, move, moved, finished, ended, whole_ends, fraction_ends, begun}
 use Rattle.svg.specs.Fold.{Turn, Going, Stopped, settle, turn_of, verdict_from}
@@ -204,6 +204,6 @@ firsts W (y ∷ ys) pre i s j w n a b v =
         subst (Opens W) q (subst (λ (g : Fault). Told W g m) p h)
 
 -- The byte told with 61 is the number's first: before it no number is on its way to which that byte belongs.
-pub first_of_number : (bs : List ℕ) (pen : Pen) (tags points : List ℕ) (j : ℕ) → (import_of bs pen tags points).ending ≡ Faulty TooLong j → Opens (symbols bs) j
+pub first_of_number : (bs : List ℕ) (pen : Pen) (tags points : List ℕ) (j : ℕ) → (import_of bs pen tags points).ending ≡ Err (Faulty TooLong j) → Opens (symbols bs) j
 unfolding after
 first_of_number bs pen tags points j e = firsts (symbols bs) (symbols bs) [] 0 begun j refl refl refl tt (fault_verdict bs pen tags points TooLong j e)

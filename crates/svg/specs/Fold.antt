@@ -6,8 +6,7 @@ use Rattle.svg.specs.declared.steps.Place.TheVariants.{AtGap}
 use Rattle.svg.specs.declared.steps.State.{State}
 use Rattle.svg.specs.declared.steps.Step.{Step}
 use Rattle.svg.specs.declared.steps.Step.TheVariants.{Go, Lettered, Shut, Bad}
-use Rattle.svg.specs.declared.steps.Verdict.{Verdict}
-use Rattle.svg.specs.declared.steps.Verdict.TheVariants.{Refused}
+use Rattle.svg.specs.Machine.{Verdict, Refused}
 use Rattle.svg.specs.Language.{pick, Item, letter, number, close, next}
 use Rattle.svg.specs.Machine.{moved, finished, ended, in_number, last, number_of}
 

@@ -5,8 +5,7 @@ use Rattle.svg.specs.declared.steps.Fault.{Fault}
 use Rattle.svg.specs.declared.steps.Kind.TheVariants.{Move}
 use Rattle.svg.specs.declared.steps.Symbol.{Symbol}
 use Rattle.svg.specs.Fold.{Turn, Going, Stopped}
-use Rattle.svg.specs.declared.steps.Verdict.{Verdict}
-use Rattle.svg.specs.declared.steps.Verdict.TheVariants.{Accepted, Refused}
+use Rattle.svg.specs.Machine.{Verdict, Accepted, Refused}
 use Rattle.svg.specs.Language.{Item, Text, symbols, symbol_of}
 use Rattle.svg.specs.Machine.{num, begun}
 use Rattle.svg.specs.Fold.{verdict_from, turn_of}

@@ -1,10 +1,9 @@
 -- What the functions of `hand` hand each other. Definitions only.
-use Rattle.std.specs.Prelude.{Bool, true, false, List, [], ◌∷◌, ℕ, ◌+◌}
+use Rattle.std.specs.Prelude.{Bool, true, false, List, [], ◌∷◌, ℕ, ◌+◌, Ok}
 use Rattle.pattern.specs.Commands.{line, quad, cubic, Command, move, draw, Outcome, outcome}
 use Rattle.pattern.specs.Commands.{command_of as drawn}
 use Rattle.pattern.specs.declared.pen.Spot.{Spot}
 use Rattle.pattern.specs.declared.pen.Pen.{Pen}
-use Rattle.pattern.specs.declared.pen.Answer.TheVariants.{Accepted}
 use Rattle.svg.specs.declared.steps.Kind.{Kind}
 use Rattle.svg.specs.declared.steps.Kind.TheVariants.{Move, Line, Quad, Cubic}
 use Rattle.svg.specs.declared.hand.Six.{Six}
@@ -41,7 +40,7 @@ abbrev pub hand_commands : Hand → List Command
 hand_commands h = pick (restarts_by h.kind h.shut) (move h.home ∷ six_command h.kind h.six ∷ []) (six_command h.kind h.six ∷ [])
 
 unfoldable pub command_by : Hand → Pen → List ℕ → List ℕ → Outcome
-command_by h pen tags points = all_of (outcome Accepted pen tags points) (hand_commands h)
+command_by h pen tags points = all_of (outcome (Ok tt) pen tags points) (hand_commands h)
 
 abbrev pub home_by : Kind → Six → Spot → Spot
 home_by Move s home = spot s.e s.f

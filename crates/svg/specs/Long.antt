@@ -1,5 +1,5 @@
 -- Where a text is refused with 61: at the byte that is told a number is spelt whose digits, before the point or behind it, are ten or more (`long_byte`). Assumes nothing.
-use Rattle.std.specs.Prelude.{◌≡◌, refl, ◌⊎◌, Bool, true, false, List, [], ◌∷◌, ◌++◌, ℕ, zero, suc, ◌+◌, ◌≤◌, eqb, ltb, length, drop}
+use Rattle.std.specs.Prelude.{◌≡◌, refl, ◌⊎◌, Bool, true, false, List, [], ◌∷◌, ◌++◌, ℕ, zero, suc, ◌+◌, ◌≤◌, eqb, ltb, length, drop, Err}
 use Rattle.std.proofs.Common.{sym, ap, ◌∙◌, subst, inl, inr, arith, ltb-false, length-append}
 use Rattle.pattern.specs.declared.pen.Pen.{Pen}
 use Rattle.svg.specs.declared.steps.Kind.{Kind}
@@ -14,9 +14,8 @@ use Rattle.svg.specs.declared.steps.Fault.{Fault}
 use Rattle.svg.specs.declared.steps.Fault.TheVariants.{NotInLanguage, TooLong}
 use Rattle.svg.specs.declared.steps.Step.{Step}
 use Rattle.svg.specs.declared.steps.Step.TheVariants.{Go, Lettered, Shut, Bad}
-use Rattle.svg.specs.declared.steps.Verdict.{Verdict}
-use Rattle.svg.specs.declared.steps.Verdict.TheVariants.{Accepted as Text, Refused}
-use Rattle.svg.specs.declared.reader.Ending.TheVariants.{Faulty}
+use Rattle.svg.specs.Machine.{Verdict, Accepted as Text, Refused}
+use Rattle.svg.specs.declared.reader.Refusal.TheVariants.{Faulty}
 use Rattle.svg.specs.Language.{pick, by, symbols, Signs, bare, sign, signed, digits, next}
 use Rattle.svg.specs.Machine.{num, whole_digit, fraction_digit, first_letter, opening, move, moved, finished, ended, in_number, last, begun}
 use Rattle.svg.specs.Fold.{Turn, Going, Stopped, settle, turn_of, closing, verdict_from}
@@ -233,5 +232,5 @@ longs W (y ∷ ys) i s j e S v = go (turn_of (Going s) i y) refl (turn_long W ys
         subst (λ (m : ℕ). TooMany (drop m W)) b (subst (λ (g : Fault). Told W ys g m) a h)
 
 -- At the byte told with 61 a number begins that has ten or more digits before the point or behind it.
-pub long_byte : (bs : List ℕ) (pen : Pen) (tags points : List ℕ) (j : ℕ) → (import_of bs pen tags points).ending ≡ Faulty TooLong j → TooMany (drop j (symbols bs))
+pub long_byte : (bs : List ℕ) (pen : Pen) (tags points : List ℕ) (j : ℕ) → (import_of bs pen tags points).ending ≡ Err (Faulty TooLong j) → TooMany (drop j (symbols bs))
 long_byte bs pen tags points j e = longs (symbols bs) (symbols bs) 0 begun j refl tt (fault_verdict bs pen tags points TooLong j e)

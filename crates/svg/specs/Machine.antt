@@ -7,11 +7,10 @@ use Rattle.svg.specs.declared.steps.Place.{Place}
 use Rattle.svg.specs.declared.steps.Place.TheVariants.{AtStart, AtLetter, AtSign, InWhole, AtPoint, InFraction, AtGap, AtComma, AtClose}
 use Rattle.svg.specs.declared.steps.Num.{Num}
 use Rattle.svg.specs.declared.steps.State.{State}
+use Rattle.svg.specs.declared.steps.Fault.{Fault}
 use Rattle.svg.specs.declared.steps.Fault.TheVariants.{NotInLanguage, TooLong}
 use Rattle.svg.specs.declared.steps.Step.{Step}
 use Rattle.svg.specs.declared.steps.Step.TheVariants.{Go, Lettered, Shut, Bad}
-use Rattle.svg.specs.declared.steps.Verdict.{Verdict}
-use Rattle.svg.specs.declared.steps.Verdict.TheVariants.{Accepted, Refused}
 use Rattle.svg.specs.Language.{arity, pick, by, Decimal, dec, Item, letter, number, close, next}
 
 abbrev pub num : Bool → ℕ → ℕ → ℕ → ℕ → Num
@@ -24,12 +23,16 @@ st p k h m = record { place = p; kind = k; have = h; num = m }
 abbrev pub off : ℕ → Step
 off i = Bad NotInLanguage i
 
--- a digit before the point, and one behind it; the tenth is refused at the number's first byte
+-- a digit is read and the state is s, unless nine stood before it; the tenth is refused at the number's first byte
+abbrev pub unless_tenth : ℕ → State → Step
+unless_tenth c s = pick (ltb c 9) (Go s) (Bad TooLong s.num.from)
+
+-- a digit before the point, and one behind it
 abbrev pub whole_digit : Kind → ℕ → Num → ℕ → Step
-whole_digit k h m d = pick (ltb m.before 9) (Go (st InWhole k h (num m.negative (m.n * 10 + d) (m.before + 1) m.behind m.from))) (Bad TooLong m.from)
+whole_digit k h m d = unless_tenth m.before (st InWhole k h (num m.negative (m.n * 10 + d) (m.before + 1) m.behind m.from))
 
 abbrev pub fraction_digit : Kind → ℕ → Num → ℕ → Step
-fraction_digit k h m d = pick (ltb m.behind 9) (Go (st InFraction k h (num m.negative (m.n * 10 + d) m.before (m.behind + 1) m.from))) (Bad TooLong m.from)
+fraction_digit k h m d = unless_tenth m.behind (st InFraction k h (num m.negative (m.n * 10 + d) m.before (m.behind + 1) m.from))
 
 -- what holds of the number that is being read: at most nine digits each side of the point
 pub record Held (m : Num) : Type 0 where
@@ -126,6 +129,11 @@ moved s i b = move s.place s.kind s.have s.num i b
 
 abbrev pub begun : State
 begun = st AtStart Move 0 (num false 0 0 0 0)
+
+-- how a text ends
+pub data Verdict : Type 0 where
+  Accepted : Verdict
+  Refused : Fault → ℕ → Verdict
 
 -- behind a number the text may end where the group is full
 abbrev pub gap_last : ℕ → ℕ → Verdict

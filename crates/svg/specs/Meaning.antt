@@ -2,7 +2,7 @@
 use Rattle.std.specs.Prelude.{Bool, true, false, List, [], ◌∷◌, ◌++◌, ℕ, ◌+◌, eqb, get_or}
 use Rattle.std.specs.Float.{binary32}
 use Rattle.std.specs.Float.Ieee.{to_bits}
-use Rattle.pattern.specs.Commands.{line, quad, cubic, Command, move, draw, end, Outcome}
+use Rattle.pattern.specs.Commands.{line, quad, cubic, Command, move, draw, end, number_of, Outcome}
 use Rattle.pattern.specs.Meaning.{next}
 use Rattle.pattern.specs.declared.pen.Spot.{Spot}
 use Rattle.svg.specs.declared.steps.Kind.{Kind}
@@ -59,7 +59,7 @@ meaning cs = drawn_from origin false cs ++ (end ∷ [])
 
 -- one after the other, up to the first that is refused
 abbrev pub unless_refused : Outcome → Command → Outcome
-unless_refused o command = pick (eqb o.number 0) (next o command) o
+unless_refused o command = pick (eqb (number_of o.answer) 0) (next o command) o
 
 unfoldable pub all_of : Outcome → List Command → Outcome
 all_of o [] = o

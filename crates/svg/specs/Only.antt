@@ -6,11 +6,9 @@ use Rattle.std.specs.Float.Ieee.{to_bits}
 use Rattle.laws.specs.Only.{Only, determined}
 use Rattle.pattern.specs.declared.pen.Pen.{Pen}
 use Rattle.svg.specs.Decimal.{decimal_of}
-use Rattle.svg.specs.Import.{fault_number, report_of, told, import_of}
+use Rattle.svg.specs.Import.{Ending, fault_number, report_of, told, import_of}
 use Rattle.svg.specs.declared.steps.Fault.{Fault}
-use Rattle.svg.specs.declared.reader.Ending.{Ending}
 use Rattle.svg.specs.declared.reader.Report.{Report}
-use Rattle.svg.specs.declared.reader.Done.{Done}
 
 pub decimal_only : (s : Bool) (n k : ℕ) → Only (λ r. r ≡ to_bits binary32 (decimal_of s n k))
 decimal_only s n k = determined (to_bits binary32 (decimal_of s n k))
@@ -21,5 +19,5 @@ number_only f = determined (fault_number f)
 pub report_only : (e : Ending) → Only (λ (r : Report). r ≡ report_of e)
 report_only e = determined (report_of e)
 
-pub read_only : (bs : List ℕ) (pen : Pen) (tags points : List ℕ) → Only (λ (r : Done × (List ℕ × List ℕ)). told r.0 r.1.0 r.1.1 ≡ import_of bs pen tags points)
-read_only bs pen tags points r s p q = let e = p ∙ sym q in λ i. (record { ending = (e i).ending; pen = (e i).pen }, ((e i).tags, (e i).points))
+pub read_only : (bs : List ℕ) (pen : Pen) (tags points : List ℕ) → Only (λ (r : Ending × (Pen × (List ℕ × List ℕ))). told r.0 r.1.0 r.1.1.0 r.1.1.1 ≡ import_of bs pen tags points)
+read_only bs pen tags points r s p q = let e = p ∙ sym q in λ i. ((e i).ending, ((e i).pen, ((e i).tags, (e i).points)))

@@ -12,8 +12,8 @@ use Rattle.svg.specs.declared.steps.Num.{Num}
 use Rattle.svg.specs.declared.steps.State.{State}
 use Rattle.svg.specs.declared.steps.Step.{Step}
 use Rattle.svg.specs.declared.steps.Step.TheVariants.{Go, Lettered, Shut, Bad}
-use Rattle.svg.specs.declared.steps.Verdict.{Verdict}
 use Rattle.svg.specs.Language.{pick, by, arity, behind, next, letter, number, close, symbols, symbol_of, mark_of, letter_of, digit_byte, white_byte}
+use Rattle.svg.specs.Machine.{Verdict}
 use Rattle.svg.specs.Machine.{Held, num, st, digit_of, whole_digit, fraction_digit, first_letter, opening, move, moved, ended, finished, in_number, number_of, begun, Run, over, said, does, runs}
 use Rattle.svg.specs.Finite.{Bounded}
 

@@ -1,11 +1,11 @@
 -- Where a text's command is refused, there was no room for it (`only_room`): every number of a text is finite, and a drawing command finds something open. Assumes nothing.
-use Rattle.std.specs.Prelude.{◌≡◌, refl, ◌⊎◌, Bool, true, false, cond, ◌&&◌, List, [], ◌∷◌, ◌++◌, ℕ, zero, suc, ◌+◌, eqb, length, get_or}
+use Rattle.std.specs.Prelude.{◌≡◌, refl, ◌⊎◌, Bool, true, false, cond, ◌&&◌, List, [], ◌∷◌, ◌++◌, ℕ, zero, suc, ◌+◌, eqb, length, get_or, Ok, Err}
 use Rattle.std.proofs.Common.{sym, ap, ◌∙◌, subst, inl, inr, arith, eq-eqb, ne_eqb, lit<, length-append}
 use Rattle.std.specs.Float.{binary32}
 use Rattle.std.specs.Float.Ieee.{of_bits}
 use Rattle.std.specs.Float.Ieee.Scale.{finite}
 use Rattle.scene.specs.Reading.{all_finite}
-use Rattle.pattern.specs.Commands.{floats_of, words_of, numbers, named, spots, may_draw, place_of, ink_of, Ink, none, end_bit, fits, written, inked, Command, move, end, Outcome, outcome, number_of}
+use Rattle.pattern.specs.Commands.{floats_of, words_of, numbers, named, spots, may_draw, place_of, ink_of, Ink, none, end_bit, fits, written, inked, Command, move, end, Answer, Outcome, outcome, number_of}
 use Rattle.pattern.specs.Commands.{behind as inkBehind, command_of as drawn_by}
 use Rattle.pattern.specs.Meaning.{next}
 use Rattle.pattern.specs.declared.pen.Spot.{Spot}
@@ -13,16 +13,17 @@ use Rattle.pattern.specs.declared.pen.Open.{Open}
 use Rattle.pattern.specs.declared.pen.Open.TheVariants.{Nothing, Moved, Drawing}
 use Rattle.pattern.specs.declared.pen.Place.{Place}
 use Rattle.pattern.specs.declared.pen.Pen.{Pen}
-use Rattle.pattern.specs.declared.pen.Answer.TheVariants.{Accepted as Drawn, NoRoom}
+use Rattle.pattern.specs.Encoded.{zero_ok}
+use Rattle.pattern.specs.declared.pen.Fault.{Fault}
+use Rattle.pattern.specs.declared.pen.Fault.TheVariants.{NoMove, NoRoom, NotFinite}
 use Rattle.svg.specs.declared.steps.Kind.{Kind}
 use Rattle.svg.specs.declared.steps.Kind.TheVariants.{Move, Line, Quad, Cubic}
-use Rattle.svg.specs.declared.steps.Verdict.TheVariants.{Accepted as Text, Refused}
-use Rattle.svg.specs.declared.reader.Ending.{Ending}
-use Rattle.svg.specs.declared.reader.Ending.TheVariants.{Accepted, Faulty, Undrawn}
+use Rattle.svg.specs.Machine.{Accepted as Text, Refused}
+use Rattle.svg.specs.declared.reader.Refusal.TheVariants.{Faulty, Undrawn}
 use Rattle.svg.specs.Language.{pick, arity, behind, symbols, Decimal, dec, letter, number, close}
 use Rattle.svg.specs.Machine.{Run, over, said, runs, begun}
 use Rattle.svg.specs.Meaning.{spot_at, command_of, home_of, commands_of, origin, all_of}
-use Rattle.svg.specs.Import.{Told, stop, go_on, import_from, import_of}
+use Rattle.svg.specs.Import.{Ending, Told, stop, on_answer, go_on, import_from, import_of}
 use Rattle.svg.specs.Finite.{Bounded, word_finite}
 use Rattle.svg.specs.Orderly.{Orderly, orderly, not_both}
 
@@ -90,15 +91,15 @@ home_ok Cubic xs home B h = h
 
 -- accepted, the pen at the place p; or refused with 21
 abbrev Goes : Outcome → Place → Type 0
-Goes o p = ((o.number ≡ 0) × (o.pen.place ≡ p)) ⊎ (o.number ≡ 21)
+Goes o p = ((number_of o.answer ≡ 0) × (o.pen.place ≡ p)) ⊎ (number_of o.answer ≡ 21)
 
-written_ok : (pen : Pen) (p : Place) (ink : Ink) (tags points : List ℕ) → ((written pen p ink tags points).number ≡ 0) × ((written pen p ink tags points).pen.place ≡ p)
+written_ok : (pen : Pen) (p : Place) (ink : Ink) (tags points : List ℕ) → (number_of (written pen p ink tags points).answer ≡ 0) × ((written pen p ink tags points).pen.place ≡ p)
 unfolding written number_of
 written_ok pen p none tags points = (refl, refl)
 written_ok pen p end_bit tags points = (refl, refl)
 written_ok pen p (inkBehind t ws) tags points = (refl, refl)
 
-inked_way : (t : Bool) (pen : Pen) (p : Place) (ink : Ink) (tags points : List ℕ) → Goes (cond t (written pen p ink tags points) (outcome NoRoom pen tags points)) p
+inked_way : (t : Bool) (pen : Pen) (p : Place) (ink : Ink) (tags points : List ℕ) → Goes (cond t (written pen p ink tags points) (outcome (Err NoRoom) pen tags points)) p
 unfolding number_of
 inked_way true pen p ink tags points = inl (written_ok pen p ink tags points)
 inked_way false pen p ink tags points = inr refl
@@ -142,7 +143,7 @@ may_end Drawing = refl
 
 -- accepted, and something is open; or 21
 abbrev Opens : Outcome → Type 0
-Opens o = ((o.number ≡ 0) × IsOpen o.pen.place.opened) ⊎ (o.number ≡ 21)
+Opens o = ((number_of o.answer ≡ 0) × IsOpen o.pen.place.opened) ⊎ (number_of o.answer ≡ 21)
 
 opens_by : (o : Outcome) (p : Place) → IsOpen p.opened → Goes o p → Opens o
 opens_by o p h (inl (e, q)) = inl (e, subst (λ (p : Place). IsOpen p.opened) (sym q) h)
@@ -169,35 +170,35 @@ end_ok : numbers (named end) ≡ true
 unfolding named all_finite floats_of
 end_ok = refl
 
-ends : (o : Outcome) → ((next o end).number ≡ 0) ⊎ ((next o end).number ≡ 21)
+ends : (o : Outcome) → (number_of (next o end).answer ≡ 0) ⊎ (number_of (next o end).answer ≡ 21)
 ends o = one (next_ok o end (may_end o.pen.place.opened) end_ok)
   where
-    one : Goes (next o end) (place_of o.pen.place end) → ((next o end).number ≡ 0) ⊎ ((next o end).number ≡ 21)
+    one : Goes (next o end) (place_of o.pen.place end) → (number_of (next o end).answer ≡ 0) ⊎ (number_of (next o end).answer ≡ 21)
     one (inl (e, q)) = inl e
     one (inr e) = inr e
 
 -- ---- the commands of one group
 
-all_one : (o : Outcome) (c : Command) → o.number ≡ 0 → Opens (next o c) → Opens (all_of o (c ∷ []))
+all_one : (o : Outcome) (c : Command) → number_of o.answer ≡ 0 → Opens (next o c) → Opens (all_of o (c ∷ []))
 unfolding all_of
-all_one o c z h = subst Opens (sym (ap (λ (t : Bool). pick t (next o c) o) (eq-eqb o.number 0 z))) h
+all_one o c z h = subst Opens (sym (ap (λ (t : Bool). pick t (next o c) o) (eq-eqb (number_of o.answer) 0 z))) h
 
 -- nothing more is drawn behind a refusal
-all_then : (o : Outcome) (c : Command) → Opens o → (o.number ≡ 0 → IsOpen o.pen.place.opened → Opens (next o c)) → Opens (all_of o (c ∷ []))
+all_then : (o : Outcome) (c : Command) → Opens o → (number_of o.answer ≡ 0 → IsOpen o.pen.place.opened → Opens (next o c)) → Opens (all_of o (c ∷ []))
 unfolding all_of
 all_then o c (inl (z, p)) h = all_one o c z (h z p)
 all_then o c (inr e) h =
-    subst Opens (sym (ap (λ (t : Bool). pick t (next o c) o) (ne_eqb o.number 0 (λ z. let q = e in omega arith)))) (inr e)
+    subst Opens (sym (ap (λ (t : Bool). pick t (next o c) o) (ne_eqb (number_of o.answer) 0 (λ z. let q = e in omega arith)))) (inr e)
 
-all_two : (o : Outcome) (c d : Command) → o.number ≡ 0 → all_of o (c ∷ d ∷ []) ≡ all_of (next o c) (d ∷ [])
+all_two : (o : Outcome) (c d : Command) → number_of o.answer ≡ 0 → all_of o (c ∷ d ∷ []) ≡ all_of (next o c) (d ∷ [])
 unfolding all_of
-all_two o c d z = ap (λ (t : Bool). all_of (pick t (next o c) o) (d ∷ [])) (eq-eqb o.number 0 z)
+all_two o c d z = ap (λ (t : Bool). all_of (pick t (next o c) o) (d ∷ [])) (eq-eqb (number_of o.answer) 0 z)
 
 -- behind Z, or with something open
 abbrev Stays : Bool → Outcome → Type 0
 Stays shut o = (shut ≡ true) ⊎ IsOpen o.pen.place.opened
 
-module _ (o : Outcome) (xs : List Decimal) (home : Spot) (z : o.number ≡ 0) (B : AllBounded xs) (H : WholeSpot home) where
+module _ (o : Outcome) (xs : List Decimal) (home : Spot) (z : number_of o.answer ≡ 0) (B : AllBounded xs) (H : WholeSpot home) where
   restarted : (k : Kind) → Opens (all_of o (move home ∷ command_of k xs ∷ []))
   restarted k =
       subst Opens (sym (all_two o (move home) (command_of k xs) z))
@@ -223,18 +224,28 @@ module _ (o : Outcome) (xs : List Decimal) (home : Spot) (z : o.number ≡ 0) (B
 -- ---- the import
 
 abbrev Room : Ending → Type 0
-Room Accepted = Unit {0}
-Room (Faulty f i) = Unit {0}
-Room (Undrawn n i) = n ≡ 21
+Room (Ok x) = Unit {0}
+Room (Err (Faulty f i)) = Unit {0}
+Room (Err (Undrawn f i)) = f ≡ NoRoom
 
-goes_room : (o : Outcome) (i : ℕ) (t : Told) → (o.number ≡ 0) ⊎ (o.number ≡ 21) → (o.number ≡ 0 → Room t.ending) → Room (go_on o i t).ending
-goes_room o i t (inl z) f = subst (λ (b : Bool). Room (pick b t (stop (Undrawn o.number i) o)).ending) (sym (eq-eqb o.number 0 z)) (f z)
-goes_room o i t (inr e) f =
-    subst (λ (b : Bool). Room (pick b t (stop (Undrawn o.number i) o)).ending) (sym (ne_eqb o.number 0 (λ z. let q = e in omega arith))) e
+no_room : (f : Fault) → number_of (Err f) ≡ 21 → f ≡ NoRoom
+unfolding number_of
+no_room NoMove e = absurd (omega (arith, e))
+no_room NoRoom e = refl
+no_room NotFinite e = absurd (omega (arith, e))
+
+goes_room : (o : Outcome) (i : ℕ) (t : Told) → (number_of o.answer ≡ 0) ⊎ (number_of o.answer ≡ 21) → (number_of o.answer ≡ 0 → Room t.ending) → Room (go_on o i t).ending
+unfolding number_of
+goes_room o i t s f = go o.answer refl s
+  where
+    go : (a : Answer) → o.answer ≡ a → (number_of o.answer ≡ 0) ⊎ (number_of o.answer ≡ 21) → Room (on_answer a o i t).ending
+    go (Ok x) e s = f (ap number_of e)
+    go (Err g) e (inl z) = let y : ◌≡◌ {A = ℕ} 0 1 = let k = zero_ok o.answer z in cc in absurd (omega arith)
+    go (Err g) e (inr z) = no_room g (sym (ap number_of e) ∙ z)
 
 -- `b`: a group was full before
 record Way (b : Bool) (k : Kind) (p : List Decimal) (home : Spot) (shut : Bool) (o : Outcome) : Type 0 where
-  drawn : o.number ≡ 0
+  drawn : number_of o.answer ≡ 0
   bounded : AllBounded p
   whole : WholeSpot home
   first : b ≡ false → k ≡ Move
@@ -244,7 +255,7 @@ ready : (b : Bool) (k : Kind) (shut : Bool) (o : Outcome) → (b ≡ false → k
 ready true k shut o f g = inr (g refl)
 ready false k shut o f g = inl (f refl)
 
-opened_room : (o : Outcome) (i : ℕ) (t : Told) → Opens o → (o.number ≡ 0 → IsOpen o.pen.place.opened → Room t.ending) → Room (go_on o i t).ending
+opened_room : (o : Outcome) (i : ℕ) (t : Told) → Opens o → (number_of o.answer ≡ 0 → IsOpen o.pen.place.opened → Room t.ending) → Room (go_on o i t).ending
 opened_room o i t (inl (z, p)) f = goes_room o i t (inl z) (λ e. f z p)
 opened_room o i t (inr e) f = goes_room o i t (inr e) (λ z. absurd (let q = e in omega arith))
 
@@ -267,7 +278,7 @@ module _ (n i : ℕ) (r : Run) (IH : (b : Bool) (k : Kind) (p : List Decimal) (h
 
 room : (r : Run) (n : ℕ) (b : Bool) (k : Kind) (p : List Decimal) (home : Spot) (shut : Bool) (o : Outcome) → Orderly r b k (length p) → Way b k p home shut o → Room (import_from n k p home shut o r).ending
 unfolding import_from
-room (over Text) n b k p home shut o R W = goes_room (next o end) n (stop Accepted (next o end)) (ends o) (λ z. tt)
+room (over Text) n b k p home shut o R W = goes_room (next o end) n (stop (Ok tt) (next o end)) (ends o) (λ z. tt)
 room (over (Refused f i)) n b k p home shut o R W = tt
 room (said (letter l) i r) n b k p home shut o R W =
     room r n b l [] home shut o R.1 (record { drawn = W.drawn; bounded = tt; whole = W.whole; first = R.0; later = W.later })
@@ -284,10 +295,9 @@ zero_whole = refl
 all_room : (bs : List ℕ) (pen : Pen) (tags points : List ℕ) → Room (import_of bs pen tags points).ending
 unfolding import_of number_of
 all_room bs pen tags points =
-    room (runs 0 begun (symbols bs)) (length bs) false Move [] origin false (outcome Drawn pen tags points) (orderly bs)
+    room (runs 0 begun (symbols bs)) (length bs) false Move [] origin false (outcome (Ok tt) pen tags points) (orderly bs)
     (record { drawn = refl; bounded = tt; whole = (zero_whole, zero_whole); first = λ f. refl; later = λ f. absurd (not_both false f refl) })
 
 -- Where a command of a text is refused, it is for want of room: never for a number that is not finite, and never with nothing open.
-pub only_room : (bs : List ℕ) (pen : Pen) (tags points : List ℕ) (n i : ℕ) → (import_of bs pen tags points).ending ≡ Undrawn n i → n ≡ number_of NoRoom
-unfolding number_of
-only_room bs pen tags points n i e = subst Room e (all_room bs pen tags points)
+pub only_room : (bs : List ℕ) (pen : Pen) (tags points : List ℕ) (f : Fault) (i : ℕ) → (import_of bs pen tags points).ending ≡ Err (Undrawn f i) → f ≡ NoRoom
+only_room bs pen tags points f i e = subst Room e (all_room bs pen tags points)

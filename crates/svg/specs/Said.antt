@@ -5,8 +5,8 @@ use Rattle.svg.specs.declared.steps.Symbol.{Symbol}
 use Rattle.svg.specs.declared.steps.State.{State}
 use Rattle.svg.specs.declared.steps.Step.{Step}
 use Rattle.svg.specs.declared.steps.Step.TheVariants.{Go, Lettered, Shut, Bad}
-use Rattle.svg.specs.declared.steps.Verdict.{Verdict}
 use Rattle.svg.specs.Language.{pick, Item, letter, number, close}
+use Rattle.svg.specs.Machine.{Verdict}
 use Rattle.svg.specs.Machine.{Run, over, said, does, runs, moved, finished, ended, in_number, number_of}
 use Rattle.svg.specs.Fold.{Answer, answer, says, onward, last_of, run}
 

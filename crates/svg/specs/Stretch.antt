@@ -1,5 +1,5 @@
 -- What the functions of `stretch` hand each other: from behind some digits, what is left of the text comes to the same. Definitions only.
-use Rattle.std.specs.Prelude.{◌≡◌, Bool, true, false, List, ℕ, ◌+◌, ◌*◌, ◌^◌, ◌≤◌, ◌<◌, ltb, eqb, length, drop, get_or}
+use Rattle.std.specs.Prelude.{◌≡◌, Bool, true, false, List, ℕ, ◌+◌, ◌*◌, ◌^◌, ◌≤◌, ◌<◌, ltb, eqb, length, drop, get_or, Ok}
 use Rattle.pattern.specs.declared.pen.Pen.{Pen}
 use Rattle.svg.specs.declared.steps.Kind.{Kind}
 use Rattle.svg.specs.declared.steps.Symbol.TheVariants.{Digit}
@@ -9,7 +9,6 @@ use Rattle.svg.specs.declared.steps.Num.{Num}
 use Rattle.svg.specs.declared.steps.State.{State}
 use Rattle.svg.specs.declared.steps.Step.TheVariants.{Go}
 use Rattle.svg.specs.declared.hand.Hand.{Hand}
-use Rattle.svg.specs.declared.reader.Way.TheVariants.{On}
 use Rattle.svg.specs.Language.{pick, digit_byte, symbols}
 use Rattle.svg.specs.Machine.{num, st, moved, ended, Sound}
 use Rattle.svg.specs.Walk.{walk, left, read_into}
@@ -61,7 +60,7 @@ pub record Onward (text : List ℕ) (s : State) (i : ℕ) (t : State) (j : ℕ) 
   pub on : i ≤ j
   pub within : j ≤ length text
   pub sound : Sound t
-  pub same : (h : Hand) (pen : Pen) (tags points : List ℕ) → read_into i (left (On (walk s h pen)) tags points) (symbols (drop i text)) ≡ read_into j (left (On (walk t h pen)) tags points) (symbols (drop j text))
+  pub same : (h : Hand) (pen : Pen) (tags points : List ℕ) → read_into i (left (Ok (walk s h)) pen tags points) (symbols (drop i text)) ≡ read_into j (left (Ok (walk t h)) pen tags points) (symbols (drop j text))
 
 -- reading digits from i on, with the number n and the count c, one may stand at j with n' and c': on either side of the point the text comes to the same from there; where j is behind i, a digit stands at i
 pub record Digits (text : List ℕ) (i n c j n' c' : ℕ) : Type 0 where

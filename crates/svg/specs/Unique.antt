@@ -23,8 +23,7 @@ use Rattle.svg.specs.Language.{pick, dec, Item, letter, number, close, next, Sig
 use Rattle.svg.specs.Machine.{num, st, number_of, begun, moved, finished, ended, last, in_number}
 use Rattle.svg.specs.Fold.{Answer, answer, says, onward, run, verdict_from, settle, last_of}
 use Rattle.svg.specs.Fold.{Going, Stopped}
-use Rattle.svg.specs.declared.steps.Verdict.{Verdict}
-use Rattle.svg.specs.declared.steps.Verdict.TheVariants.{Accepted, Refused}
+use Rattle.svg.specs.Machine.{Verdict, Accepted, Refused}
 
 -- ---- white space
 

@@ -1,14 +1,17 @@
-// What the letters and numbers of a text are drawn with: the commands of `pattern`, one for each full group of numbers.
+// What the letters and numbers of a text are drawn with: the commands of `pattern`, one for each full group of numbers. The pen and
+// the two lists go apart, as those take them: a struct of the three would be taken apart again at each command.
 ghost use Rattle.std.specs.Prelude.{◌≡◌, ◌<◌};
-ghost use Rattle.pattern.specs.Commands.{told};
+ghost use Rattle.pattern.specs.Commands.{end, outcome, told, command_of};
 ghost use Rattle.svg.specs.Language.{behind};
 ghost use Rattle.svg.specs.Hands.{pushed, restarts_by, home_by, command_by, lettered, counted, onward, closed, drawn_of};
 
 use crate::steps::Kind;
-use pattern::commands::{cubic_to, line_to, move_to, quad_to};
-use pattern::pen::{Drew, Pen, Spot};
+use pattern::commands::{cubic_to, end, line_to, move_to, quad_to};
+use pattern::pen::{Fault, Pen, Spot};
 
-// The last six numbers, as the words of their f32.
+// Six numbers, as the words of their f32: here the last of a text, and in `cut` a transform, by the names that SVG has for its
+// numbers: it takes (x, y) to (a*x + c*y + e, b*x + d*y + f). A command takes its own by their names; in an array it would take
+// them by indices, `six[4]` for `six.e`, and a number more would still shift all.
 #[derive(Clone, Copy)]
 pub struct Six {
     pub a: u32,
@@ -44,8 +47,8 @@ fn push(six: Six, w: u32) -> Six
 }
 
 // The command of a full group: its numbers are the last.
-fn draw(kind: Kind, six: Six, pen: Pen, tags: &mut [u8], points: &mut [u32]) -> Drew
-    ensures { told result tags.new points.new ≡ drawn_of kind six pen tags.old points.old }
+fn draw(kind: Kind, six: Six, pen: Pen, tags: &mut [u8], points: &mut [u32]) -> Result<Pen, Fault>
+    ensures { told result pen tags.new points.new ≡ drawn_of kind six pen tags.old points.old }
 {
     let from = Spot { x: six.a, y: six.b };
     let by = Spot { x: six.c, y: six.d };
@@ -64,44 +67,42 @@ fn restarts(kind: Kind, shut: bool) -> bool
 {
     match kind {
         Kind::Move => false,
-        Kind::Line => shut,
-        Kind::Quad => shut,
-        Kind::Cubic => shut,
+        _ => shut,
     }
 }
 
-pub(crate) fn command(hand: Hand, pen: Pen, tags: &mut [u8], points: &mut [u32]) -> Drew
-    ensures { told result tags.new points.new ≡ command_by hand pen tags.old points.old }
+// A full group. Where the move is accepted and the command refused, the pen stands at the move.
+pub(crate) fn command(
+    hand: Hand,
+    pen: &mut Pen,
+    tags: &mut [u8],
+    points: &mut [u32],
+) -> Result<(), Fault>
+    ensures { outcome result pen.new tags.new points.new ≡ command_by hand pen.old tags.old points.old }
 {
-    let kind = hand.kind;
-    let six = hand.six;
-    let home = hand.home;
-    let shut = hand.shut;
-    if restarts(kind, shut) {
-        let moved = move_to(pen, home, tags, points);
-        let answer = moved.answer;
-        let there = moved.pen;
-        if answer.number() != 0 {
-            return moved;
-        }
-        return draw(kind, six, there, tags, points);
+    if restarts(hand.kind, hand.shut) {
+        *pen = move_to(*pen, hand.home, tags, points)?;
     }
-    draw(kind, six, pen, tags, points)
+    *pen = draw(hand.kind, hand.six, *pen, tags, points)?;
+    Ok(())
+}
+
+// Z, and the end of the text.
+pub(crate) fn close(pen: &mut Pen, tags: &mut [u8], points: &mut [u32]) -> Result<(), Fault>
+    ensures { outcome result pen.new tags.new points.new ≡ command_of pen.old end tags.old points.old }
+{
+    *pen = end(*pen, tags, points)?;
+    Ok(())
 }
 
 // A letter begins a command.
 pub(crate) fn letter_in(hand: Hand, kind: Kind) -> Hand
     ensures { result ≡ lettered hand kind }
 {
-    let six = hand.six;
-    let home = hand.home;
-    let shut = hand.shut;
     Hand {
         kind,
         have: 0,
-        six,
-        home,
-        shut,
+        ..hand
     }
 }
 
@@ -110,17 +111,10 @@ pub(crate) fn number_in(hand: Hand, w: u32) -> Hand
     requires { hand.have < 6 }
     ensures { result ≡ counted hand w }
 {
-    let kind = hand.kind;
-    let have = hand.have;
-    let six = hand.six;
-    let home = hand.home;
-    let shut = hand.shut;
     Hand {
-        kind,
-        have: have + 1,
-        six: push(six, w),
-        home,
-        shut,
+        have: hand.have + 1,
+        six: push(hand.six, w),
+        ..hand
     }
 }
 
@@ -130,9 +124,7 @@ fn home_of(kind: Kind, six: Six, home: Spot) -> Spot
 {
     match kind {
         Kind::Move => Spot { x: six.e, y: six.f },
-        Kind::Line => home,
-        Kind::Quad => home,
-        Kind::Cubic => home,
+        _ => home,
     }
 }
 
@@ -142,38 +134,28 @@ fn kind_behind(kind: Kind) -> Kind
 {
     match kind {
         Kind::Move => Kind::Line,
-        Kind::Line => Kind::Line,
-        Kind::Quad => Kind::Quad,
-        Kind::Cubic => Kind::Cubic,
+        _ => kind,
     }
 }
 
 pub(crate) fn group_done(hand: Hand) -> Hand
     ensures { result ≡ onward hand }
 {
-    let kind = hand.kind;
-    let six = hand.six;
-    let home = hand.home;
     Hand {
-        kind: kind_behind(kind),
+        kind: kind_behind(hand.kind),
         have: 0,
-        six,
-        home: home_of(kind, six, home),
+        home: home_of(hand.kind, hand.six, hand.home),
         shut: false,
+        ..hand
     }
 }
 
 pub(crate) fn shut_in(hand: Hand) -> Hand
     ensures { result ≡ closed hand }
 {
-    let kind = hand.kind;
-    let six = hand.six;
-    let home = hand.home;
     Hand {
-        kind,
         have: 0,
-        six,
-        home,
         shut: true,
+        ..hand
     }
 }

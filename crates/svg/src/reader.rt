@@ -1,37 +1,30 @@
 // The reader of path data: it walks the table over the bytes of a text and draws each command when its last number is read.
 
-ghost use Rattle.std.specs.Prelude.{◌≡◌, ◌≤◌, ◌<◌};
+ghost use Rattle.std.specs.Prelude.{◌≡◌, ◌≤◌, ◌<◌, Err};
 ghost use Rattle.svg.specs.Language.{symbol_of};
 ghost use Rattle.svg.specs.Machine.{digit_of};
 ghost use Rattle.svg.specs.Import.{told, import_of, report_of};
-ghost use Rattle.svg.specs.Walk.{left, settled_by, number_by, act_by, step_by, one_by, ended_by, over_by, last_by, Sound, start_of};
+ghost use Rattle.svg.specs.Walk.{left, drawn_at, number_by, act_by, step_by, one_by, ended_by, over_by, last_by, Sound, beginning};
 
-use crate::hand::{Hand, Six, command, group_done, letter_in, number_in, shut_in};
+use crate::hand::{Hand, Six, close, command, group_done, letter_in, number_in, shut_in};
 use crate::steps::{
-    Fault, Kind, Num, Place, State, Step, Symbol, Verdict, finish, group, in_number, last_at,
-    number_ended, number_word, step_at, symbol_at,
+    Fault, Kind, Num, Place, State, Step, Symbol, finish, group, in_number, may_end, number_ended,
+    number_word, step_at, symbol_at,
 };
 use crate::stretch::number_on;
-use pattern::commands::end;
-use pattern::pen::{Drew, Pen, Spot};
+use pattern::pen;
+use pattern::pen::{Pen, Spot};
 
-// How a text ended.
-#[derive(Clone, Copy)]
-pub enum Ending {
-    Accepted,
-    // The language's refusal and its byte.
+// Why a text is refused, and the byte.
+#[derive(Clone, Copy, Debug, PartialEq, Eq)]
+pub enum Refusal {
+    // The language's refusal.
     Faulty(Fault, usize),
-    // The number of `pattern`'s refusal of a command, and the byte at which the command was over.
-    Undrawn(u32, usize),
+    // `pattern`'s refusal of a command, which was over at the byte.
+    Undrawn(pen::Fault, usize),
 }
 
-#[derive(Clone, Copy)]
-pub struct Done {
-    pub ending: Ending,
-    pub pen: Pen,
-}
-
-// The number of an answer, and the byte of a refusal.
+// The number of a refusal, and its byte.
 #[derive(Clone, Copy)]
 pub struct Report {
     pub number: u32,
@@ -43,135 +36,102 @@ pub struct Report {
 pub struct Walk {
     pub state: State,
     pub hand: Hand,
-    pub pen: Pen,
 }
 
-#[derive(Clone, Copy)]
-pub enum Way {
-    On(Walk),
-    Over(Done),
-}
-
-// Goes on behind a command that was accepted.
-fn settle(drew: Drew, i: usize, state: State, hand: Hand) -> Way
-    ensures { result ≡ settled_by drew i state hand }
+// What `pattern` answered to a command that is over at the byte i.
+fn drawn_at(answer: Result<(), pen::Fault>, i: usize) -> Result<(), Refusal>
+    ensures { result ≡ drawn_at answer i }
 {
-    let pen = drew.pen;
-    let answer = drew.answer;
-    let number = answer.number();
-    if number == 0 {
-        return Way::On(Walk { state, hand, pen });
-    }
-    Way::Over(Done {
-        ending: Ending::Undrawn(number, i),
-        pen,
-    })
+    answer.map_err(|fault| Refusal::Undrawn(fault, i))
 }
 
 // A number is over at the byte i; where it fills its group, the command is drawn.
-fn number_over(w: Walk, i: usize, tags: &mut [u8], points: &mut [u32]) -> Way
+fn number_over(
+    w: Walk,
+    i: usize,
+    pen: &mut Pen,
+    tags: &mut [u8],
+    points: &mut [u32],
+) -> Result<Walk, Refusal>
     requires { Sound w }
-    ensures { left result tags.new points.new ≡ number_by w i tags.old points.old }
+    ensures { left result pen.new tags.new points.new ≡ number_by w i pen.old tags.old points.old }
 {
-    let state = w.state;
-    let pen = w.pen;
-    let before = w.hand;
-    let num = state.num;
-    let hand = number_in(before, number_word(num));
-    let kind = hand.kind;
-    let have = hand.have;
-    let then = finish(state);
-    if have == group(kind) {
-        let drew = command(hand, pen, tags, points);
-        return settle(drew, i, then, group_done(hand));
+    let hand = number_in(w.hand, number_word(w.state.num));
+    let state = finish(w.state);
+    if hand.have != group(hand.kind) {
+        return Ok(Walk { state, hand });
     }
-    Way::On(Walk {
-        state: then,
-        hand,
-        pen,
+    drawn_at(command(hand, pen, tags, points), i)?;
+    Ok(Walk {
+        state,
+        hand: group_done(hand),
     })
 }
 
 // What a step does to the drawing.
-fn act(hand: Hand, pen: Pen, i: usize, y: Step, tags: &mut [u8], points: &mut [u32]) -> Way
-    ensures { left result tags.new points.new ≡ act_by hand pen i y tags.old points.old }
+fn act(
+    hand: Hand,
+    i: usize,
+    y: Step,
+    pen: &mut Pen,
+    tags: &mut [u8],
+    points: &mut [u32],
+) -> Result<Walk, Refusal>
+    ensures { left result pen.new tags.new points.new ≡ act_by hand pen.old i y tags.old points.old }
 {
     match y {
-        Step::Go(state) => Way::On(Walk { state, hand, pen }),
-        Step::Lettered(state) => {
-            let kind = state.kind;
-            Way::On(Walk {
+        Step::Go(state) => Ok(Walk { state, hand }),
+        Step::Lettered(state) => Ok(Walk {
+            state,
+            hand: letter_in(hand, state.kind),
+        }),
+        Step::Shut(state) => {
+            drawn_at(close(pen, tags, points), i)?;
+            Ok(Walk {
                 state,
-                hand: letter_in(hand, kind),
-                pen,
+                hand: shut_in(hand),
             })
         }
-        Step::Shut(state) => {
-            let drew = end(pen, tags, points);
-            settle(drew, i, state, shut_in(hand))
-        }
-        Step::Bad(fault, at) => Way::Over(Done {
-            ending: Ending::Faulty(fault, at),
-            pen,
-        }),
+        Step::Bad(fault, at) => Err(Refusal::Faulty(fault, at)),
     }
 }
 
-// The last command was read: the end of the text is an end.
-fn finish_pen(pen: Pen, i: usize, tags: &mut [u8], points: &mut [u32]) -> Done
-    ensures { told result tags.new points.new ≡ ended_by pen i tags.old points.old }
+// The end of the text behind its last number: it is an end.
+fn text_over(
+    w: Walk,
+    i: usize,
+    pen: &mut Pen,
+    tags: &mut [u8],
+    points: &mut [u32],
+) -> Result<(), Refusal>
+    ensures { told result pen.new tags.new points.new ≡ over_by w i pen.old tags.old points.old }
 {
-    let drew = end(pen, tags, points);
-    let pen = drew.pen;
-    let answer = drew.answer;
-    let number = answer.number();
-    if number == 0 {
-        return Done {
-            ending: Ending::Accepted,
-            pen,
-        };
+    if !may_end(w.state.place, w.state.have) {
+        return Err(Refusal::Faulty(Fault::NotInLanguage, i));
     }
-    Done {
-        ending: Ending::Undrawn(number, i),
-        pen,
-    }
-}
-
-// The end of the text behind its last number.
-fn text_over(w: Walk, i: usize, tags: &mut [u8], points: &mut [u32]) -> Done
-    ensures { told result tags.new points.new ≡ over_by w i tags.old points.old }
-{
-    let state = w.state;
-    let pen = w.pen;
-    let p = state.place;
-    let have = state.have;
-    match last_at(p, have, i) {
-        Verdict::Accepted => finish_pen(pen, i, tags, points),
-        Verdict::Refused(fault, at) => Done {
-            ending: Ending::Faulty(fault, at),
-            pen,
-        },
-    }
+    drawn_at(close(pen, tags, points), i)
 }
 
 // The end of the text; a number that stands there is dealt with first.
-fn last(w: Walk, i: usize, tags: &mut [u8], points: &mut [u32]) -> Done
+fn last(
+    w: Walk,
+    i: usize,
+    pen: &mut Pen,
+    tags: &mut [u8],
+    points: &mut [u32],
+) -> Result<(), Refusal>
     requires { Sound w }
-    ensures { told result tags.new points.new ≡ last_by w i tags.old points.old }
+    ensures { told result pen.new tags.new points.new ≡ last_by w i pen.old tags.old points.old }
 {
-    let state = w.state;
-    let p = state.place;
-    if in_number(p) {
-        return match number_over(w, i, tags, points) {
-            Way::On(v) => text_over(v, i, tags, points),
-            Way::Over(r) => r,
-        };
+    if !in_number(w.state.place) {
+        return text_over(w, i, pen, tags, points);
     }
-    text_over(w, i, tags, points)
+    let v = number_over(w, i, pen, tags, points)?;
+    text_over(v, i, pen, tags, points)
 }
 
-fn begin(pen: Pen) -> Walk
-    ensures { result ≡ start_of pen }
+fn begin() -> Walk
+    ensures { result ≡ beginning }
 {
     Walk {
         state: State {
@@ -200,59 +160,47 @@ fn begin(pen: Pen) -> Walk
             home: Spot { x: 0, y: 0 },
             shut: false,
         },
-        pen,
     }
 }
 
-// Draws a text behind what the pen has drawn. A byte that ends a number is looked at again, behind the number; most bytes change
-// the state alone, and those that go on a number are read at a stretch.
-pub fn read(text: &[u8], pen: Pen, tags: &mut [u8], points: &mut [u32]) -> Done
-    ensures { told result tags.new points.new ≡ import_of text.now pen tags.old points.old }
+// Draws a text behind what the pen has drawn; after a refusal the pen and what is lent stand as the commands before it left them.
+// A byte that ends a number is looked at again, behind the number; most bytes change the state alone, and those that go on a number
+// are read at a stretch: so the place goes on by none, by one or by many bytes, and no `for` counts it.
+pub fn read(text: &[u8], pen: &mut Pen, tags: &mut [u8], points: &mut [u32]) -> Result<(), Refusal>
+    ensures { told result pen.new tags.new points.new ≡ import_of text.now pen.old tags.old points.old }
 {
-    let mut w = begin(pen);
+    let mut w = begin();
     let mut i: usize = 0;
     while i < text.len() {
         let y = symbol_at(text[i]);
         let state = w.state;
-        let place = state.place;
-        if number_ended(place, y) {
-            match number_over(w, i, tags, points) {
-                Way::On(v) => w = v,
-                Way::Over(r) => return r,
-            }
+        if number_ended(state.place, y) {
+            w = number_over(w, i, pen, tags, points)?;
             continue;
         }
         let taken = step_at(state, i, y);
         if let Step::Go(s) = taken {
             let stand = number_on(text, i + 1, s);
-            let then = stand.state;
-            w.state = then;
+            w.state = stand.state;
             i = stand.at;
             continue;
         }
-        let hand = w.hand;
-        let held = w.pen;
-        match act(hand, held, i, taken, tags, points) {
-            Way::On(v) => w = v,
-            Way::Over(r) => return r,
-        }
+        w = act(w.hand, i, taken, pen, tags, points)?;
         i += 1;
     }
-    last(w, i, tags, points)
+    last(w, i, pen, tags, points)
 }
 
-impl Ending {
-    // 0 where the text is accepted. No other place assigns 60 and 61.
-    pub fn report(self) -> Report
-        ensures { result ≡ report_of self }
-    {
-        match self {
-            Ending::Accepted => Report { number: 0, at: 0 },
-            Ending::Faulty(fault, at) => Report {
-                number: fault.number(),
-                at,
-            },
-            Ending::Undrawn(number, at) => Report { number, at },
-        }
+// As C is told it, where an accepted text is 0 and 0.
+impl From<Refusal> for Report {
+    ghost from_gives = { λ e t. t ≡ report_of (Err e) };
+
+    #[tactic(auto, unfolding(crate::specs::Import::report_of))]
+    fn from(refusal: Refusal) -> Report {
+        let (number, at) = match refusal {
+            Refusal::Faulty(fault, at) => (fault.number(), at),
+            Refusal::Undrawn(fault, at) => (fault.number(), at),
+        };
+        Report { number, at }
     }
 }

@@ -1,10 +1,13 @@
 // What each byte of path data does: the table of specs/Machine.antt, by the place that the text has come to.
 
-ghost use Rattle.std.specs.Prelude.{◌≡◌, ◌≤◌, ◌<◌};
-ghost use Rattle.svg.specs.Language.{symbol_of, mark_of, letter_of, white_byte, digit_byte, next, arity};
+ghost use Rattle.std.specs.Prelude.{◌≡◌, ◌≤◌, ◌<◌, ℕ, ◌+◌, ◌*◌, ◌^◌};
+ghost use Rattle.svg.specs.Language.{pick, symbol_of, mark_of, letter_of, white_byte, digit_byte, next, arity};
 ghost use Rattle.svg.specs.Meaning.{word_of};
 ghost use Rattle.svg.specs.Import.{fault_number};
-ghost use Rattle.svg.specs.Machine.{number_of, Held, digit_of, whole_digit, fraction_digit, move, moved, ended, finished, is_white, opens_of, gap_letter, gap_close, first_letter, whole_ends, fraction_ends, in_number, last, gap_last};
+ghost use Rattle.svg.specs.declared.steps.Fault.TheVariants.{NotInLanguage};
+ghost use Rattle.svg.specs.declared.steps.Place.TheVariants.{AtLetter, AtClose};
+ghost use Rattle.svg.specs.declared.steps.Step.TheVariants.{Go, Lettered, Shut};
+ghost use Rattle.svg.specs.Machine.{number_of, Held, st, digit_of, num, unless_tenth, whole_digit, fraction_digit, move, moved, ended, finished, is_white, opens_of, whole_ends, fraction_ends, in_number, last, Accepted, Refused, opening, off};
 
 use crate::decimal::decimal;
 
@@ -65,7 +68,7 @@ pub struct State {
 }
 
 // What is wrong with a text.
-#[derive(Clone, Copy)]
+#[derive(Clone, Copy, Debug, PartialEq, Eq)]
 pub enum Fault {
     // No text of the language goes on so.
     NotInLanguage,
@@ -74,6 +77,7 @@ pub enum Fault {
 }
 
 impl Fault {
+    #[tactic(auto, unfolding(crate::specs::Import::fault_number))]
     pub fn number(self) -> u32
         ensures { result ≡ fault_number self }
     {
@@ -84,7 +88,8 @@ impl Fault {
     }
 }
 
-// What a byte does: the state behind it, and the item that it finishes; or the refusal and its byte.
+// What a byte does: the state behind it, and the item that it finishes; or the refusal and its byte. Of the table's answers that
+// is one in five: by a Result all others would stand in an `Ok`, `Ok(Step::Go(..))`, for the `?` of the one call.
 #[derive(Clone, Copy)]
 pub enum Step {
     Go(State),
@@ -93,35 +98,19 @@ pub enum Step {
     Bad(Fault, usize),
 }
 
-// How a text ends.
-#[derive(Clone, Copy)]
-pub enum Verdict {
-    Accepted,
-    Refused(Fault, usize),
-}
-
 pub(crate) fn digit_byte(b: u8) -> bool
     ensures { result ≡ digit_byte b }
 {
-    if b < 48 {
-        return false;
-    }
-    b <= 57
+    matches!(b, 48..=57)
 }
 
 fn white_byte(b: u8) -> bool
     ensures { result ≡ white_byte b }
 {
-    match b {
-        32 => true,
-        9 => true,
-        10 => true,
-        12 => true,
-        13 => true,
-        _ => false,
-    }
+    matches!(b, 32 | 9 | 10 | 12 | 13)
 }
 
+#[tactic(auto, unfolding(crate::specs::Language::letter_of))]
 fn letter(b: u8) -> Symbol
     ensures { result ≡ letter_of b }
 {
@@ -135,6 +124,7 @@ fn letter(b: u8) -> Symbol
     }
 }
 
+#[tactic(auto, unfolding(crate::specs::Language::mark_of))]
 fn mark(b: u8) -> Symbol
     ensures { result ≡ mark_of b }
 {
@@ -148,6 +138,7 @@ fn mark(b: u8) -> Symbol
 }
 
 // What a byte is to the language.
+#[tactic(auto, unfolding(crate::specs::Language::symbol_of))]
 pub(crate) fn symbol_at(b: u8) -> Symbol
     ensures { result ≡ symbol_of b }
 {
@@ -160,315 +151,183 @@ pub(crate) fn symbol_at(b: u8) -> Symbol
     mark(b)
 }
 
-// A digit before the point.
-fn whole_digit(k: Kind, h: u64, m: Num, d: u64) -> Step
-    requires { Held m × (d ≤ 9) }
-    ensures { result ≡ whole_digit k h m d }
+// A digit more, and behind it that place. It is counted in m and not read yet; so many digits stand before it on its side of the
+// point. The tenth is refused at the number's first byte.
+fn one_more(s: State, place: Place, m: Num, count: u64, d: u64) -> Step
+    requires { (m.n < 10 ^ 18) × (d ≤ 9) }
+    ensures { result ≡ unless_tenth count (st place s.kind s.have (num m.negative (m.n * 10 + d) m.before m.behind m.from)) }
 {
-    let negative = m.negative;
-    let n = m.n;
-    let before = m.before;
-    let behind = m.behind;
-    let from = m.from;
-    if before < 9 {
-        Step::Go(State {
-            place: Place::InWhole,
-            kind: k,
-            have: h,
-            num: Num {
-                negative,
-                n: n * 10 + d,
-                before: before + 1,
-                behind,
-                from,
-            },
-        })
-    } else {
-        Step::Bad(Fault::TooLong, from)
+    if count < 9 {
+        let num = Num {
+            n: m.n * 10 + d,
+            ..m
+        };
+        return Step::Go(State { place, num, ..s });
     }
+    Step::Bad(Fault::TooLong, m.from)
+}
+
+// A digit before the point.
+#[tactic(auto, using(crate::proofs::Reading::held_room))]
+fn whole_digit(s: State, d: u64) -> Step
+    requires { Held s.num × (d ≤ 9) }
+    ensures { result ≡ whole_digit s.kind s.have s.num d }
+{
+    let mut m = s.num;
+    m.before += 1;
+    one_more(s, Place::InWhole, m, s.num.before, d)
 }
 
 // A digit behind the point.
-fn fraction_digit(k: Kind, h: u64, m: Num, d: u64) -> Step
-    requires { Held m × (d ≤ 9) }
-    ensures { result ≡ fraction_digit k h m d }
+#[tactic(auto, using(crate::proofs::Reading::held_room))]
+fn fraction_digit(s: State, d: u64) -> Step
+    requires { Held s.num × (d ≤ 9) }
+    ensures { result ≡ fraction_digit s.kind s.have s.num d }
 {
-    let negative = m.negative;
-    let n = m.n;
-    let before = m.before;
-    let behind = m.behind;
-    let first = m.from;
-    if behind < 9 {
-        Step::Go(State {
-            place: Place::InFraction,
-            kind: k,
-            have: h,
-            num: Num {
-                negative,
-                n: n * 10 + d,
-                before,
-                behind: behind + 1,
-                from: first,
-            },
-        })
-    } else {
-        Step::Bad(Fault::TooLong, first)
-    }
+    let mut m = s.num;
+    m.behind += 1;
+    one_more(s, Place::InFraction, m, s.num.behind, d)
 }
 
+// A state, a byte's place and its symbol, as the specs' `move` has them: in one struct each arm would take the three apart.
 // Where a number is to begin, and nothing else may stand.
-fn opens(k: Kind, h: u64, i: usize, y: Symbol) -> Step
+fn opens(s: State, i: usize, y: Symbol) -> Step
     requires { digit_of y ≤ 9 }
-    ensures { result ≡ opens_of k h i y }
+    ensures { result ≡ opens_of s.kind s.have i y }
 {
+    let num = Num {
+        negative: false,
+        n: 0,
+        before: 0,
+        behind: 0,
+        from: i,
+    };
     match y {
-        Symbol::White => Step::Bad(Fault::NotInLanguage, i),
-        Symbol::Comma => Step::Bad(Fault::NotInLanguage, i),
-        Symbol::Sign(s) => Step::Go(State {
+        Symbol::Sign(negative) => Step::Go(State {
             place: Place::AtSign,
-            kind: k,
-            have: h,
-            num: Num {
-                negative: s,
-                n: 0,
-                before: 0,
-                behind: 0,
-                from: i,
-            },
+            num: Num { negative, ..num },
+            ..s
         }),
         Symbol::Dot => Step::Go(State {
             place: Place::AtPoint,
-            kind: k,
-            have: h,
-            num: Num {
-                negative: false,
-                n: 0,
-                before: 0,
-                behind: 0,
-                from: i,
-            },
+            num,
+            ..s
         }),
-        Symbol::Digit(d) => whole_digit(
-            k,
-            h,
-            Num {
-                negative: false,
-                n: 0,
-                before: 0,
-                behind: 0,
-                from: i,
-            },
-            d,
-        ),
-        Symbol::Letter(_) => Step::Bad(Fault::NotInLanguage, i),
-        Symbol::Close => Step::Bad(Fault::NotInLanguage, i),
-        Symbol::Other => Step::Bad(Fault::NotInLanguage, i),
+        Symbol::Digit(d) => whole_digit(State { num, ..s }, d),
+        _ => Step::Bad(Fault::NotInLanguage, i),
     }
 }
 
 fn is_white(y: Symbol) -> bool
     ensures { result ≡ is_white y }
 {
-    match y {
-        Symbol::White => true,
-        Symbol::Comma => false,
-        Symbol::Sign(_) => false,
-        Symbol::Dot => false,
-        Symbol::Digit(_) => false,
-        Symbol::Letter(_) => false,
-        Symbol::Close => false,
-        Symbol::Other => false,
-    }
+    matches!(y, Symbol::White)
 }
 
-fn at_letter(k: Kind, h: u64, m: Num, i: usize, y: Symbol) -> Step
+// Behind a letter, and behind a comma: white space, which changes nothing, or a number.
+fn at_opening(s: State, i: usize, y: Symbol) -> Step
     requires { digit_of y ≤ 9 }
-    ensures { result ≡ move Place.AtLetter k h m i y }
+    ensures { result ≡ opening s.kind s.have i (Go s) (off i) (λ l. off i) (off i) y }
 {
     if is_white(y) {
-        return Step::Go(State {
-            place: Place::AtLetter,
-            kind: k,
-            have: h,
-            num: m,
-        });
+        return Step::Go(s);
     }
-    opens(k, h, i, y)
+    opens(s, i, y)
 }
 
-fn at_comma(k: Kind, h: u64, m: Num, i: usize, y: Symbol) -> Step
+// A letter begins the numbers of its kind.
+fn lettered(s: State, kind: Kind) -> Step
+    ensures { result ≡ Lettered (st AtLetter kind 0 s.num) }
+{
+    Step::Lettered(State {
+        place: Place::AtLetter,
+        kind,
+        have: 0,
+        ..s
+    })
+}
+
+fn shut(s: State) -> Step
+    ensures { result ≡ Shut (st AtClose s.kind 0 s.num) }
+{
+    Step::Shut(State {
+        place: Place::AtClose,
+        have: 0,
+        ..s
+    })
+}
+
+// Behind a number, where a letter and Z may stand where the group is full.
+fn at_gap(s: State, i: usize, y: Symbol) -> Step
     requires { digit_of y ≤ 9 }
-    ensures { result ≡ move Place.AtComma k h m i y }
-{
-    if is_white(y) {
-        return Step::Go(State {
-            place: Place::AtComma,
-            kind: k,
-            have: h,
-            num: m,
-        });
-    }
-    opens(k, h, i, y)
-}
-
-// A letter behind a number: where the group is full.
-fn gap_letter(h: u64, m: Num, i: usize, l: Kind) -> Step
-    ensures { result ≡ gap_letter h m i l }
-{
-    if h == 0 {
-        return Step::Lettered(State {
-            place: Place::AtLetter,
-            kind: l,
-            have: 0,
-            num: m,
-        });
-    }
-    Step::Bad(Fault::NotInLanguage, i)
-}
-
-fn gap_close(k: Kind, h: u64, m: Num, i: usize) -> Step
-    ensures { result ≡ gap_close k h m i }
-{
-    if h == 0 {
-        return Step::Shut(State {
-            place: Place::AtClose,
-            kind: k,
-            have: 0,
-            num: m,
-        });
-    }
-    Step::Bad(Fault::NotInLanguage, i)
-}
-
-fn at_gap(k: Kind, h: u64, m: Num, i: usize, y: Symbol) -> Step
-    requires { digit_of y ≤ 9 }
-    ensures { result ≡ move Place.AtGap k h m i y }
+    ensures { result ≡ move Place.AtGap s.kind s.have s.num i y }
 {
     match y {
         Symbol::White => Step::Go(State {
             place: Place::AtGap,
-            kind: k,
-            have: h,
-            num: m,
+            ..s
         }),
         Symbol::Comma => Step::Go(State {
             place: Place::AtComma,
-            kind: k,
-            have: h,
-            num: m,
+            ..s
         }),
-        Symbol::Sign(_) => opens(k, h, i, y),
-        Symbol::Dot => opens(k, h, i, y),
-        Symbol::Digit(_) => opens(k, h, i, y),
-        Symbol::Letter(l) => gap_letter(h, m, i, l),
-        Symbol::Close => gap_close(k, h, m, i),
-        Symbol::Other => opens(k, h, i, y),
+        Symbol::Letter(kind) if s.have == 0 => lettered(s, kind),
+        Symbol::Close if s.have == 0 => shut(s),
+        _ => opens(s, i, y),
     }
 }
 
 // The first letter is M.
-fn first_letter(k: Kind, h: u64, m: Num, i: usize, l: Kind) -> Step
-    ensures { result ≡ first_letter k h m i l }
-{
-    match l {
-        Kind::Move => Step::Lettered(State {
-            place: Place::AtLetter,
-            kind: Kind::Move,
-            have: 0,
-            num: m,
-        }),
-        Kind::Line => Step::Bad(Fault::NotInLanguage, i),
-        Kind::Quad => Step::Bad(Fault::NotInLanguage, i),
-        Kind::Cubic => Step::Bad(Fault::NotInLanguage, i),
-    }
-}
-
-fn at_start(k: Kind, h: u64, m: Num, i: usize, y: Symbol) -> Step
-    ensures { result ≡ move Place.AtStart k h m i y }
+fn at_start(s: State, i: usize, y: Symbol) -> Step
+    ensures { result ≡ move Place.AtStart s.kind s.have s.num i y }
 {
     match y {
         Symbol::White => Step::Go(State {
             place: Place::AtStart,
-            kind: k,
-            have: h,
-            num: m,
+            ..s
         }),
-        Symbol::Comma => Step::Bad(Fault::NotInLanguage, i),
-        Symbol::Sign(_) => Step::Bad(Fault::NotInLanguage, i),
-        Symbol::Dot => Step::Bad(Fault::NotInLanguage, i),
-        Symbol::Digit(_) => Step::Bad(Fault::NotInLanguage, i),
-        Symbol::Letter(l) => first_letter(k, h, m, i, l),
-        Symbol::Close => Step::Bad(Fault::NotInLanguage, i),
-        Symbol::Other => Step::Bad(Fault::NotInLanguage, i),
+        Symbol::Letter(Kind::Move) => lettered(s, Kind::Move),
+        _ => Step::Bad(Fault::NotInLanguage, i),
     }
 }
 
-fn at_close(k: Kind, h: u64, m: Num, i: usize, y: Symbol) -> Step
-    ensures { result ≡ move Place.AtClose k h m i y }
+fn at_close(s: State, i: usize, y: Symbol) -> Step
+    ensures { result ≡ move Place.AtClose s.kind s.have s.num i y }
 {
     match y {
         Symbol::White => Step::Go(State {
             place: Place::AtClose,
-            kind: k,
-            have: h,
-            num: m,
+            ..s
         }),
-        Symbol::Comma => Step::Bad(Fault::NotInLanguage, i),
-        Symbol::Sign(_) => Step::Bad(Fault::NotInLanguage, i),
-        Symbol::Dot => Step::Bad(Fault::NotInLanguage, i),
-        Symbol::Digit(_) => Step::Bad(Fault::NotInLanguage, i),
-        Symbol::Letter(l) => Step::Lettered(State {
-            place: Place::AtLetter,
-            kind: l,
-            have: 0,
-            num: m,
-        }),
-        Symbol::Close => Step::Shut(State {
-            place: Place::AtClose,
-            kind: k,
-            have: 0,
-            num: m,
-        }),
-        Symbol::Other => Step::Bad(Fault::NotInLanguage, i),
+        Symbol::Letter(kind) => lettered(s, kind),
+        Symbol::Close => shut(s),
+        _ => Step::Bad(Fault::NotInLanguage, i),
     }
 }
 
 // Behind a sign, and in the digits before the point.
-fn in_whole(k: Kind, h: u64, m: Num, i: usize, y: Symbol) -> Step
-    requires { Held m × (digit_of y ≤ 9) }
-    ensures { result ≡ move Place.InWhole k h m i y }
+fn in_whole(s: State, i: usize, y: Symbol) -> Step
+    requires { Held s.num × (digit_of y ≤ 9) }
+    ensures { result ≡ move Place.InWhole s.kind s.have s.num i y }
 {
     match y {
-        Symbol::White => Step::Bad(Fault::NotInLanguage, i),
-        Symbol::Comma => Step::Bad(Fault::NotInLanguage, i),
-        Symbol::Sign(_) => Step::Bad(Fault::NotInLanguage, i),
         Symbol::Dot => Step::Go(State {
             place: Place::AtPoint,
-            kind: k,
-            have: h,
-            num: m,
+            ..s
         }),
-        Symbol::Digit(d) => whole_digit(k, h, m, d),
-        Symbol::Letter(_) => Step::Bad(Fault::NotInLanguage, i),
-        Symbol::Close => Step::Bad(Fault::NotInLanguage, i),
-        Symbol::Other => Step::Bad(Fault::NotInLanguage, i),
+        Symbol::Digit(d) => whole_digit(s, d),
+        _ => Step::Bad(Fault::NotInLanguage, i),
     }
 }
 
 // Behind the point, and in the digits behind it.
-fn in_fraction(k: Kind, h: u64, m: Num, i: usize, y: Symbol) -> Step
-    requires { Held m × (digit_of y ≤ 9) }
-    ensures { result ≡ move Place.InFraction k h m i y }
+fn in_fraction(s: State, i: usize, y: Symbol) -> Step
+    requires { Held s.num × (digit_of y ≤ 9) }
+    ensures { result ≡ move Place.InFraction s.kind s.have s.num i y }
 {
     match y {
-        Symbol::White => Step::Bad(Fault::NotInLanguage, i),
-        Symbol::Comma => Step::Bad(Fault::NotInLanguage, i),
-        Symbol::Sign(_) => Step::Bad(Fault::NotInLanguage, i),
-        Symbol::Dot => Step::Bad(Fault::NotInLanguage, i),
-        Symbol::Digit(d) => fraction_digit(k, h, m, d),
-        Symbol::Letter(_) => Step::Bad(Fault::NotInLanguage, i),
-        Symbol::Close => Step::Bad(Fault::NotInLanguage, i),
-        Symbol::Other => Step::Bad(Fault::NotInLanguage, i),
+        Symbol::Digit(d) => fraction_digit(s, d),
+        _ => Step::Bad(Fault::NotInLanguage, i),
     }
 }
 
@@ -477,20 +336,13 @@ pub(crate) fn step_at(s: State, i: usize, y: Symbol) -> Step
     requires { Held s.num × (digit_of y ≤ 9) }
     ensures { result ≡ moved s i y }
 {
-    let p = s.place;
-    let k = s.kind;
-    let h = s.have;
-    let m = s.num;
-    match p {
-        Place::AtStart => at_start(k, h, m, i, y),
-        Place::AtLetter => at_letter(k, h, m, i, y),
-        Place::AtSign => in_whole(k, h, m, i, y),
-        Place::InWhole => in_whole(k, h, m, i, y),
-        Place::AtPoint => in_fraction(k, h, m, i, y),
-        Place::InFraction => in_fraction(k, h, m, i, y),
-        Place::AtGap => at_gap(k, h, m, i, y),
-        Place::AtComma => at_comma(k, h, m, i, y),
-        Place::AtClose => at_close(k, h, m, i, y),
+    match s.place {
+        Place::AtStart => at_start(s, i, y),
+        Place::AtLetter | Place::AtComma => at_opening(s, i, y),
+        Place::AtSign | Place::InWhole => in_whole(s, i, y),
+        Place::AtPoint | Place::InFraction => in_fraction(s, i, y),
+        Place::AtGap => at_gap(s, i, y),
+        Place::AtClose => at_close(s, i, y),
     }
 }
 
@@ -498,46 +350,22 @@ pub(crate) fn step_at(s: State, i: usize, y: Symbol) -> Step
 fn whole_ended(y: Symbol) -> bool
     ensures { result ≡ whole_ends y }
 {
-    match y {
-        Symbol::White => true,
-        Symbol::Comma => true,
-        Symbol::Sign(_) => true,
-        Symbol::Dot => false,
-        Symbol::Digit(_) => false,
-        Symbol::Letter(_) => true,
-        Symbol::Close => true,
-        Symbol::Other => true,
-    }
+    !matches!(y, Symbol::Dot | Symbol::Digit(_))
 }
 
 fn fraction_ended(y: Symbol) -> bool
     ensures { result ≡ fraction_ends y }
 {
-    match y {
-        Symbol::White => true,
-        Symbol::Comma => true,
-        Symbol::Sign(_) => true,
-        Symbol::Dot => true,
-        Symbol::Digit(_) => false,
-        Symbol::Letter(_) => true,
-        Symbol::Close => true,
-        Symbol::Other => true,
-    }
+    !matches!(y, Symbol::Digit(_))
 }
 
 pub(crate) fn number_ended(p: Place, y: Symbol) -> bool
     ensures { result ≡ ended p y }
 {
     match p {
-        Place::AtStart => false,
-        Place::AtLetter => false,
-        Place::AtSign => false,
         Place::InWhole => whole_ended(y),
-        Place::AtPoint => false,
         Place::InFraction => fraction_ended(y),
-        Place::AtGap => false,
-        Place::AtComma => false,
-        Place::AtClose => false,
+        _ => false,
     }
 }
 
@@ -546,8 +374,7 @@ pub(crate) fn group(k: Kind) -> u64
     ensures { result ≡ arity k }
 {
     match k {
-        Kind::Move => 2,
-        Kind::Line => 2,
+        Kind::Move | Kind::Line => 2,
         Kind::Quad => 4,
         Kind::Cubic => 6,
     }
@@ -557,10 +384,7 @@ fn next_have(k: Kind, h: u64) -> u64
     requires { h < 6 }
     ensures { result ≡ next k h }
 {
-    if h + 1 == group(k) {
-        return 0;
-    }
-    h + 1
+    if h + 1 == group(k) { 0 } else { h + 1 }
 }
 
 // The state behind a number.
@@ -568,63 +392,32 @@ pub(crate) fn finish(s: State) -> State
     requires { s.have < 6 }
     ensures { result ≡ finished s }
 {
-    let k = s.kind;
-    let h = s.have;
-    let m = s.num;
     State {
         place: Place::AtGap,
-        kind: k,
-        have: next_have(k, h),
-        num: m,
+        have: next_have(s.kind, s.have),
+        ..s
     }
 }
 
 pub(crate) fn number_word(m: Num) -> u32
     ensures { result ≡ word_of (number_of m) }
 {
-    let negative = m.negative;
-    let n = m.n;
-    let behind = m.behind;
-    decimal(negative, n, behind)
+    decimal(m.negative, m.n, m.behind)
 }
 
 pub(crate) fn in_number(p: Place) -> bool
     ensures { result ≡ in_number p }
 {
-    match p {
-        Place::AtStart => false,
-        Place::AtLetter => false,
-        Place::AtSign => false,
-        Place::InWhole => true,
-        Place::AtPoint => false,
-        Place::InFraction => true,
-        Place::AtGap => false,
-        Place::AtComma => false,
-        Place::AtClose => false,
-    }
+    matches!(p, Place::InWhole | Place::InFraction)
 }
 
-fn gap_last(h: u64, i: usize) -> Verdict
-    ensures { result ≡ gap_last h i }
-{
-    if h == 0 {
-        return Verdict::Accepted;
-    }
-    Verdict::Refused(Fault::NotInLanguage, i)
-}
-
-pub(crate) fn last_at(p: Place, h: u64, i: usize) -> Verdict
-    ensures { result ≡ last p h i }
+// Whether a text may end there, where so many numbers of a group are read.
+pub(crate) fn may_end(p: Place, h: u64) -> bool
+    ensures { (i : ℕ) → last p h i ≡ pick result Accepted (Refused NotInLanguage i) }
 {
     match p {
-        Place::AtStart => Verdict::Accepted,
-        Place::AtLetter => Verdict::Refused(Fault::NotInLanguage, i),
-        Place::AtSign => Verdict::Refused(Fault::NotInLanguage, i),
-        Place::InWhole => Verdict::Refused(Fault::NotInLanguage, i),
-        Place::AtPoint => Verdict::Refused(Fault::NotInLanguage, i),
-        Place::InFraction => Verdict::Refused(Fault::NotInLanguage, i),
-        Place::AtGap => gap_last(h, i),
-        Place::AtComma => Verdict::Refused(Fault::NotInLanguage, i),
-        Place::AtClose => Verdict::Accepted,
+        Place::AtStart | Place::AtClose => true,
+        Place::AtGap => h == 0,
+        _ => false,
     }
 }

@@ -1,5 +1,6 @@
 // A number at a stretch: the digits and the point that follow, without a step of the table for each.
-ghost use Rattle.std.specs.Prelude.{◌≡◌, true, ◌+◌, ◌^◌, ◌≤◌, ◌<◌, length};
+ghost use Rattle.std.specs.Prelude.{◌≡◌, true, ◌+◌, ◌^◌, ◌≤◌, ◌<◌, length, get_or};
+ghost use Rattle.svg.specs.Language.{digit_byte};
 ghost use Rattle.svg.specs.Machine.{Sound};
 ghost use Rattle.svg.specs.Stretch.{has_digit, has_point, before_point, behind_point, Digits, Onward};
 
@@ -22,18 +23,14 @@ pub struct Stand {
 
 // Whether a digit stands there that is no tenth.
 fn has_digit(text: &[u8], at: usize, count: u64) -> bool
-    ensures { result ≡ has_digit text.now at count }
+    ensures is { result ≡ has_digit text.now at count }
+    ensures told { result ≡ true → (at < length text.now) × (count < 9) × (digit_byte (get_or text.now at 0) ≡ true) }
 {
-    if at < text.len() {
-        if count < 9 {
-            return digit_byte(text[at]);
-        }
-        return false;
-    }
-    false
+    at < text.len() && count < 9 && digit_byte(text[at])
 }
 
-// The digits from a byte on, behind `held` of which there are `counted`.
+// The digits from a byte on, behind `held` of which there are `counted`. A `for` over the bytes would test the same in its body, and
+// leave by a return in two places.
 fn digits(text: &[u8], start: usize, held: u64, counted: u64) -> Taken
     requires { (start ≤ length text.now) × (counted ≤ 9) × (held < 10 ^ (counted + 9)) }
     ensures { Digits text.now start held counted result.at result.n result.count }
@@ -52,42 +49,19 @@ fn digits(text: &[u8], start: usize, held: u64, counted: u64) -> Taken
 fn before_point(p: Place) -> bool
     ensures { result ≡ before_point p }
 {
-    match p {
-        Place::AtStart => false,
-        Place::AtLetter => false,
-        Place::AtSign => true,
-        Place::InWhole => true,
-        Place::AtPoint => false,
-        Place::InFraction => false,
-        Place::AtGap => false,
-        Place::AtComma => false,
-        Place::AtClose => false,
-    }
+    matches!(p, Place::AtSign | Place::InWhole)
 }
 
 fn behind_point(p: Place) -> bool
     ensures { result ≡ behind_point p }
 {
-    match p {
-        Place::AtStart => false,
-        Place::AtLetter => false,
-        Place::AtSign => false,
-        Place::InWhole => false,
-        Place::AtPoint => true,
-        Place::InFraction => true,
-        Place::AtGap => false,
-        Place::AtComma => false,
-        Place::AtClose => false,
-    }
+    matches!(p, Place::AtPoint | Place::InFraction)
 }
 
 fn has_point(text: &[u8], at: usize) -> bool
     ensures { result ≡ has_point text.now at }
 {
-    if at < text.len() {
-        return text[at] == 46;
-    }
-    false
+    at < text.len() && text[at] == 46
 }
 
 // The digits behind the point.
@@ -95,29 +69,22 @@ fn fraction_on(text: &[u8], i: usize, s: State) -> Stand
     requires { Sound s × (i ≤ length text.now) × (behind_point s.place ≡ true) }
     ensures { Onward text.now s i result.state result.at }
 {
-    let kind = s.kind;
-    let have = s.have;
     let m = s.num;
-    let negative = m.negative;
-    let before = m.before;
-    let from = m.from;
     let taken = digits(text, i, m.n, m.behind);
     let at = taken.at;
     if at == i {
         return Stand { state: s, at: i };
     }
+    let num = Num {
+        n: taken.n,
+        behind: taken.count,
+        ..m
+    };
     Stand {
         state: State {
             place: Place::InFraction,
-            kind,
-            have,
-            num: Num {
-                negative,
-                n: taken.n,
-                before,
-                behind: taken.count,
-                from,
-            },
+            num,
+            ..s
         },
         at,
     }
@@ -128,27 +95,19 @@ fn whole_on(text: &[u8], i: usize, s: State) -> Stand
     requires { Sound s × (i ≤ length text.now) × (before_point s.place ≡ true) }
     ensures { Onward text.now s i result.state result.at }
 {
-    let kind = s.kind;
-    let have = s.have;
     let m = s.num;
-    let negative = m.negative;
-    let behind = m.behind;
-    let from = m.from;
     let taken = digits(text, i, m.n, m.before);
     let at = taken.at;
     let num = Num {
-        negative,
         n: taken.n,
         before: taken.count,
-        behind,
-        from,
+        ..m
     };
     if has_point(text, at) {
         let point = State {
             place: Place::AtPoint,
-            kind,
-            have,
             num,
+            ..s
         };
         return fraction_on(text, at + 1, point);
     }
@@ -158,9 +117,8 @@ fn whole_on(text: &[u8], i: usize, s: State) -> Stand
     Stand {
         state: State {
             place: Place::InWhole,
-            kind,
-            have,
             num,
+            ..s
         },
         at,
     }

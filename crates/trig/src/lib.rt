@@ -1,10 +1,10 @@
 // sin, cos, atan2, asin and acos of f32: fixed sequences of operations, each rounded once, as specs/Trig.antt gives them.
-#![tactic(auto)]
+#![tactic(auto, unfolding(crate::specs::Trig::bounded_of, crate::specs::Trig::slope_of, crate::specs::Trig::angle_of, crate::specs::Trig::atan2_of, crate::specs::Trig::acos_near, crate::specs::Trig::arc_sine_of, crate::specs::Trig::arc_cosine_of, crate::specs::Trig::asin_of, crate::specs::Trig::acos_of, crate::specs::Trig::cos_of))]
 
 ghost use Rattle.std.specs.Prelude.{◌≡◌, cond, ◌+◌, ◌-◌, ◌*◌, ◌/◌, ◌%◌, ◌^◌, ◌≤◌};
 ghost use Rattle.std.specs.Float.{nan};
 ghost use Rattle.std.specs.Float.Ieee.{lt};
-ghost use Rattle.trig.specs.Trig.{infinity, bounded_of, quarters_of, two_over_pi, units_of, parted_of, large_of, far_of, reduced_of, sin_near, cos_near, wave_of, sin_of, cos_of, atan_near, slope_of, angle_of, atan2_of, asin_near, acos_near, arc_sine_of, arc_cosine_of, asin_of, acos_of};
+ghost use Rattle.trig.specs.Trig.{infinity, bounded_of, quarters_of, two_over_pi, units_of, parted_of, large_of, reduced_of, sin_near, cos_near, wave_of, sin_of, cos_of, atan_near, slope_of, angle_of, atan2_of, asin_near, acos_near, arc_sine_of, arc_cosine_of, asin_of, acos_of};
 
 use numbers::whole::{from_u32, whole_part};
 use numbers::words::{abs, is_nan, is_negative, turned, word_of};
@@ -138,37 +138,20 @@ fn turns(on: u32, t: Turn) -> f32
     wave(t.quarters % 4 + on, t.rest)
 }
 
-// The same for an angle from 0.78125 on.
-fn far(on: u32, a: f32) -> f32
+// sin of an angle that is not negative and one quarter turn more where on is 1: a small angle is its own rest.
+fn curve(on: u32, a: f32) -> f32
     requires { on ≤ 1 }
-    ensures { result ≡ cond (lt a infinity) (wave_of ((far_of a).quarters + on) (far_of a).rest) nan }
-{
-    if a <= 1024.0 {
-        return turns(on, quarters(a));
-    }
-    if a < 1.0 / 0.0 {
-        return turns(on, large(a));
-    }
-    0.0 / 0.0
-}
-
-// The sine and the cosine of an angle that is not negative: a small one is its own rest.
-fn sine(a: f32) -> f32
-    ensures { result ≡ cond (lt a infinity) (wave_of (reduced_of a).quarters (reduced_of a).rest) nan }
+    ensures { result ≡ cond (lt a infinity) (wave_of ((reduced_of a).quarters + on) (reduced_of a).rest) nan }
 {
     if a < 0.78125 {
-        return bounded(-1.0, 1.0, sin_near(a));
+        wave(on, a)
+    } else if a <= 1024.0 {
+        turns(on, quarters(a))
+    } else if a < f32::INFINITY {
+        turns(on, large(a))
+    } else {
+        f32::NAN
     }
-    far(0, a)
-}
-
-fn cosine(a: f32) -> f32
-    ensures { result ≡ cond (lt a infinity) (wave_of ((reduced_of a).quarters + 1) (reduced_of a).rest) nan }
-{
-    if a < 0.78125 {
-        return bounded(-1.0, 1.0, cos_near(a));
-    }
-    far(1, a)
 }
 
 // Most angles are small, and the sum of such a one lies between the bounds and has its sign, unless it is a zero.
@@ -181,10 +164,11 @@ pub fn sin(x: f32) -> f32
             return s;
         }
     }
-    turned(is_negative(x), sine(abs(x)))
+    turned(is_negative(x), curve(0, abs(x)))
 }
 
-// The sum of a small angle is above 0, and the same of either sign.
+// The sum of a small angle is above 0, and the same of either sign. Not one function with the sine: a near sum is no answer there where it
+// is 0, here where it is too large, and the sine alone has a sign.
 pub fn cos(x: f32) -> f32
     ensures { result ≡ cos_of x }
 {
@@ -194,7 +178,7 @@ pub fn cos(x: f32) -> f32
             return c;
         }
     }
-    cosine(abs(x))
+    curve(1, abs(x))
 }
 
 // The arc tangent of -1 to 1.
@@ -214,12 +198,11 @@ fn atan_near(t: f32) -> f32
 fn atan_flat(t: f32) -> f32
     ensures { result ≡ atan_near t }
 {
-    if 0.0 < t {
-        if t < 0.00006103515625 {
-            return t;
-        }
+    if 0.0 < t && t < 0.00006103515625 {
+        t
+    } else {
+        atan_near(t)
     }
-    atan_near(t)
 }
 
 // y / a, and 1 where they are equal, two infinities too.
@@ -260,11 +243,8 @@ pub fn atan2(y: f32, x: f32) -> f32
             }
         }
     }
-    if is_nan(y) {
-        return 0.0 / 0.0;
-    }
-    if is_nan(x) {
-        return 0.0 / 0.0;
+    if is_nan(y) || is_nan(x) {
+        return f32::NAN;
     }
     turned(is_negative(y), bounded(0.0, PI, angle(a, x)))
 }
@@ -317,10 +297,11 @@ pub fn asin(x: f32) -> f32
     if a <= 1.0 {
         turned(is_negative(x), bounded(0.0, HALF_PI, arc_sine(a)))
     } else {
-        0.0 / 0.0
+        f32::NAN
     }
 }
 
+// Not one function with the arc sine, whose bounds and sign are others: they share the test of a.
 pub fn acos(x: f32) -> f32
     ensures { result ≡ acos_of x }
 {
@@ -328,6 +309,6 @@ pub fn acos(x: f32) -> f32
     if a <= 1.0 {
         bounded(0.0, PI, arc_cosine(x, a))
     } else {
-        0.0 / 0.0
+        f32::NAN
     }
 }

@@ -1,6 +1,6 @@
 -- What an accepted call did: each tag was read, all that it draws are lines, and their records stand in the lent words, one tag's behind the other's. Assumes nothing.
 use Prim.Native.Nat.{ℕ, zero, suc, ◌+◌, ◌*◌, ◌%◌, ◌^◌, ◌<◌, ◌≤◌}
-use Rattle.std.specs.Prelude.{◌≡◌, ◌⊎◌, Bool, ◌||◌, List, [], ◌∷◌, ◌++◌, take, drop}
+use Rattle.std.specs.Prelude.{◌≡◌, ◌⊎◌, Bool, ◌||◌, List, [], ◌∷◌, ◌++◌, take, drop, Ok, Option, Some, None}
 use Rattle.std.proofs.Math.Path.{refl, ap}
 use Rattle.std.proofs.Common.{sym, ◌∙◌, subst, lt→ltb, take_at, drop_at, drop-drop}
 use Rattle.std.proofs.Math.Logic.{inl, inr}
@@ -11,18 +11,15 @@ use Rattle.std.proofs.Math.Decide.{ℕ_discrete}
 use Rattle.std.proofs.Math.Dec.{ltb}
 use Rattle.std.proofs.Math.ListN.{length, length-append, length-set}
 use Rattle.std.specs.Float.Ieee.Bits.{is_true}
-use Rattle.refusals.specs.Refusals.{found}
 use Rattle.refusals.specs.Laws.{number_some}
+use Rattle.refusals.specs.declared.Refusal.{Refusal}
 use Rattle.refusals.specs.declared.Refusal.TheVariants.{BadBase}
 use Rattle.drawing.specs.Sheet.{Event, line, no_count, no_join}
 use Rattle.drawing.specs.Stands.{records_of}
-use Rattle.flatten.specs.Tag.{◌>>=◌}
 use Rattle.flatten.specs.Step.{tag_word, Stepped, step_of}
 use Rattle.flatten.specs.Boxes.{changed_at}
 use Rattle.flatten.specs.Call.{start_at, first_turn, start_of, State, taken, next, after, answer_for, answer_of, said, told_of, after_by, call_by}
 use Rattle.flatten.specs.CallLaws.{moves, at_rest}
-use Rattle.flatten.specs.declared.call.Stop.{Stop}
-use Rattle.flatten.specs.declared.call.Stop.TheVariants as stop
 use Rattle.flatten.specs.declared.call.Told.{Told}
 use Rattle.flatten.specs.declared.tag.Head.{Head}
 use Rattle.watertight.specs.Balance.{AllLines}
@@ -59,16 +56,16 @@ module _ (c : Call) where
 
   -- tag i was read, and what it draws are lines
   pub record Sound (i : ℕ) : Type 0 where
-    pub head : read_head c i ≡ found (head_of c i)
-    pub events : read_events c i (head_of c i) ≡ found (drawn_at c i)
+    pub head : read_head c i ≡ Ok (head_of c i)
+    pub events : read_events c i (head_of c i) ≡ Ok (drawn_at c i)
     pub lines : AllLines (drawn_at c i)
 
-  head_is : (i : ℕ) (h : Head) → read_head c i ≡ found h → h ≡ head_of c i
+  head_is : (i : ℕ) (h : Head) → read_head c i ≡ Ok h → h ≡ head_of c i
   unfolding head_of head_or
   head_is i h e = rw e
 
-  events_are : (i : ℕ) (h : Head) (es : List Event) → read_head c i ≡ found h → read_events c i h ≡ found es → es ≡ drawn_at c i
-  unfolding drawn_at events_or ◌>>=◌
+  events_are : (i : ℕ) (h : Head) (es : List Event) → read_head c i ≡ Ok h → read_events c i h ≡ Ok es → es ≡ drawn_at c i
+  unfolding drawn_at events_or
   events_are i h es e k = rw (e, k)
 
   pub length_before : (k : ℕ) → ((i : ℕ) → i < k → Sound i) → length (records_before c k) ≡ count_before c k * 6
@@ -89,10 +86,10 @@ module _ (c : Call) where
     pub sound : (i : ℕ) → i < k → Sound i
 
   module _ (k : ℕ) (s : State) (w : Went k s) (o : Stepped) (g : Goes c.layout c.scene c.prefixes s.lines (length s.boxes) s.turn o) where
-    read : read_head c k ≡ found g.head
+    read : read_head c k ≡ Ok g.head
     read = rw (w.boxes, w.tag) at g.is_head
 
-    drew : read_events c k g.head ≡ found g.events
+    drew : read_events c k g.head ≡ Ok g.events
     drew = rw w.tag at g.is_events
 
     is_head : g.head ≡ head_of c k
@@ -104,8 +101,8 @@ module _ (c : Call) where
     sound_here : Sound k
     sound_here =
         record {
-          head = subst (λ (h : Head). read_head c k ≡ found h) is_head read;
-          events = subst (λ (h : Head). read_events c k h ≡ found (drawn_at c k)) is_head (subst (λ (es : List Event). read_events c k g.head ≡ found es) are_events drew);
+          head = subst (λ (h : Head). read_head c k ≡ Ok h) is_head read;
+          events = subst (λ (h : Head). read_events c k h ≡ Ok (drawn_at c k)) is_head (subst (λ (es : List Event). read_events c k g.head ≡ Ok es) are_events drew);
           lines = subst AllLines are_events g.lines;
         }
 
@@ -189,10 +186,10 @@ module _ (c : Call) where
     all_tags_lem (suc k) l = then k (after k c.layout c.scene c.prefixes first) l (all_tags_lem k (omega arith))
 
 -- ---- an accepted call
-lines_said : (s : Stop) (tag count n : ℕ) → told_of (answer_for s tag count) ≡ said 0 0 n → (s ≡ stop.Going) × (n ≡ count)
+lines_said : (s : Option Refusal) (tag count n : ℕ) → told_of (answer_for s tag count) ≡ said 0 0 n → (s ≡ None) × (n ≡ count)
 unfolding told_of
-lines_said stop.Going tag count n e = (refl, sym (ap (λ (t : Told). t.count) e))
-lines_said (stop.Refused why) tag count n e = absurd (number_some why (ap (λ (t : Told). t.number) e))
+lines_said None tag count n e = (refl, sym (ap (λ (t : Told). t.count) e))
+lines_said (Some why) tag count n e = absurd (number_some why (ap (λ (t : Told). t.number) e))
 
 -- what it leaves: each of its tags is sound, and its lines are the records of all tags in turn, and behind them the words as lent
 pub record Done (c : Call) (count : ℕ) : Type 0 where

@@ -1,9 +1,9 @@
 -- A call, what each of its tags draws, which of them are filled segments, and closed runs of these. Definitions only.
-use Rattle.std.specs.Prelude.{ℕ, zero, suc, ◌+◌, ◌*◌, ◌%◌, ◌^◌, ◌<◌, ◌≡◌, Bool, false, List, [], ◌∷◌, ◌++◌, T, eqb, length, take, drop}
+use Rattle.std.specs.Prelude.{ℕ, zero, suc, ◌+◌, ◌*◌, ◌%◌, ◌^◌, ◌<◌, ◌≡◌, Bool, false, List, [], ◌∷◌, ◌++◌, T, eqb, length, take, drop, Ok, Err}
 use Rattle.records.specs.Record.{place_of, tally_of}
 use Rattle.spiral.specs.Util.{eq_of}
 use Rattle.spiral.specs.declared.util.Vec2.{Vec2}
-use Rattle.refusals.specs.Refusals.{Read, found, refused}
+use Rattle.refusals.specs.Refusals.{Read}
 use Rattle.drawing.specs.Sheet.{Event}
 use Rattle.curve.specs.Chain.{written}
 use Rattle.scene.specs.Tags.{sums, tag_data}
@@ -47,12 +47,12 @@ read_events c i h = events_at c.layout c.scene c.prefixes i h
 
 -- what was found; a refused read, which no accepted call has, stands for a tag that draws nothing
 unfoldable pub head_or : Read Head → Head
-head_or (found h) = h
-head_or (refused why) = record { tag = tag_data 0 (sums 0 0 0 0); flags = 0 }
+head_or (Ok h) = h
+head_or (Err why) = record { tag = tag_data 0 (sums 0 0 0 0); flags = 0 }
 
 unfoldable pub events_or : Read (List Event) → List Event
-events_or (found es) = es
-events_or (refused why) = []
+events_or (Ok es) = es
+events_or (Err why) = []
 
 -- the tag with its style's flags
 unfoldable pub head_of : Call → ℕ → Head

@@ -1,5 +1,5 @@
 -- What a filled segment draws is one chain, from its first point to its last. Assumes nothing.
-use Rattle.std.specs.Prelude.{ℕ, zero, suc, ◌+◌, ◌*◌, ◌%◌, ◌<◌, ◌≤◌, ◌≡◌, refl, true, eqb, get_or, take, drop, Float}
+use Rattle.std.specs.Prelude.{ℕ, zero, suc, ◌+◌, ◌*◌, ◌%◌, ◌<◌, ◌≤◌, ◌≡◌, refl, true, eqb, get_or, take, drop, Float, Ok}
 use Rattle.std.proofs.Common.{ap, ◌∙◌, arith, mod-lt, lit<, get_or-take, get_or-drop}
 use Rattle.std.proofs.Math.Path.{subst}
 use Rattle.std.proofs.Math.Bool.{false}
@@ -7,6 +7,7 @@ use mathlib.Core.List.{List}
 use Rattle.std.proofs.Math.ListN.{length}
 use Rattle.std.specs.Float.Ieee.{round, eq}
 use Rattle.laws.specs.Binary32.{whole}
+use Rattle.refusals.specs.Refusals.{Read}
 use Rattle.spiral.specs.Points.{FitsPoint}
 use Rattle.spiral.specs.declared.util.Vec2.{Vec2}
 use Rattle.drawing.specs.Sheet.{Event}
@@ -18,7 +19,6 @@ use Rattle.scene.specs.Reading.{wide, point_words, point_at, line_cubic, quad_cu
 use Rattle.scene.specs.Points.{point_fits}
 use Rattle.segment.specs.declared.Shape.{Shape}
 use Rattle.segment.specs.declared.Shape.TheVariants.{Fill}
-use Rattle.refusals.specs.Refusals.{found}
 use Rattle.flatten.specs.Tag.{events_at, shape_at, is_stroke}
 use Rattle.flatten.specs.Found.{parts}
 use Rattle.flatten.specs.declared.call.Layout.{Layout}
@@ -47,15 +47,15 @@ six_words_lem ws at =
     cc (here ws at, word_of ws at 0 (lit< tt), word_of ws at 1 (lit< tt), word_of ws at 2 (lit< tt), word_of ws at 3 (lit< tt), word_of ws at 4 (lit< tt), word_of ws at 5 (lit< tt))
 
 -- ---- what a filled segment draws
-is_fill : (layout : Layout) (scene prefixes : List ℕ) (ix : ℕ) (h : Head) (s : Shape) → is_stroke h ≡ false → shape_at (is_stroke h) layout scene prefixes ix h ≡ found s → s ≡ Fill
+is_fill : (layout : Layout) (scene prefixes : List ℕ) (ix : ℕ) (h : Head) (s : Shape) → is_stroke h ≡ false → shape_at (is_stroke h) layout scene prefixes ix h ≡ Ok s → s ≡ Fill
 unfolding shape_at
 is_fill layout scene prefixes ix h s f e = filled (rw f at e)
   where
-    filled : found Fill ≡ found s → s ≡ Fill
+    filled : ◌≡◌ {A = Read Shape} (Ok Fill) (Ok s) → s ≡ Fill
     filled k = cc
 
 pub fill_events_lem : (layout : Layout) (scene prefixes : List ℕ) (ix : ℕ) (h : Head) (es : List Event)
-    → eqb (h.tag.tag_byte % 4) 0 ≡ false → is_stroke h ≡ false → events_at layout scene prefixes ix h ≡ found es
+    → eqb (h.tag.tag_byte % 4) 0 ≡ false → is_stroke h ≡ false → events_at layout scene prefixes ix h ≡ Ok es
     → fill_events (floats_at scene (layout.transform_base + h.tag.monoid.trans_ix * 6))
     (cubic_of (h.tag.tag_byte % 4) false scene (wide h.tag.tag_byte) (layout.data_base + h.tag.monoid.pathseg_offset))
     ≡ es
@@ -73,7 +73,7 @@ carry : (z z' : List Float) (p p' q q' : Vec2) (es es' : List Event) → z ≡ z
 carry z z' p p' q q' es es' a b c d h = rw (a, b, c, d) at h
 
 -- a call's tag i, and what it draws
-module _ (c : Call) (i : ℕ) (es : List Event) (segment : eqb (type_of c i) 0 ≡ false) (no_stroke : is_stroke (head_of c i) ≡ false) (is : read_events c i (head_of c i) ≡ found es) where
+module _ (c : Call) (i : ℕ) (es : List Event) (segment : eqb (type_of c i) 0 ≡ false) (no_stroke : is_stroke (head_of c i) ≡ false) (is : read_events c i (head_of c i) ≡ Ok es) where
   pub fill_few : length es ≤ 6553600
   unfolding fill_events
   fill_few = subst (λ (es : List Event). length es ≤ 6553600) (fill_events_lem c.layout c.scene c.prefixes i _ es segment no_stroke is) (lines_at_most _ _ _ _ _)

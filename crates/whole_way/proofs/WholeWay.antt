@@ -1,5 +1,5 @@
 -- The whole way, from the designer's text to the knife: the theorem. What it promises is defined in Promise.antt. Assumes nothing.
-use Rattle.std.specs.Prelude.{ℕ, ◌*◌, ◌≤◌, ◌≡◌, refl, List, [], ◌∷◌, ◌++◌, length, take, drop}
+use Rattle.std.specs.Prelude.{Ok, ℕ, ◌*◌, ◌≤◌, ◌≡◌, refl, List, [], ◌∷◌, ◌++◌, length, take, drop}
 use Rattle.std.proofs.Common.{sym, ap, ◌∙◌, subst}
 use Rattle.pattern.specs.Commands.{Command, Outcome, number_of}
 use Rattle.pattern.specs.Meaning.{nothing, meant, fresh_pen, fresh}
@@ -26,11 +26,9 @@ use Rattle.hpgl.specs.Looks.{look_written, look_length, look_reads}
 use Rattle.hpgl.specs.RoundTrip.{export_form}
 use Rattle.hpgl.specs.declared.Point.{Point}
 use Rattle.hpgl.specs.declared.Table.{Table}
-use Rattle.hpgl.specs.declared.export.Cut.TheVariants as cut
 use Rattle.cut.specs.Sheet.{six_of}
 use Rattle.cut.specs.Stages.{cut_of}
-use Rattle.cut.specs.declared.sheet.Six.{Six}
-use Rattle.cut.specs.declared.Answer.TheVariants.{Whole}
+use Rattle.svg.specs.declared.hand.Six.{Six}
 use Rattle.whole_way.specs.Calls.{sheet_call}
 use Rattle.whole_way.specs.Promise.{subpaths_of, cut_lines, Promise}
 use Rattle.whole_way.specs.Sheets as sheets
@@ -80,7 +78,7 @@ module _ (tags points : List ℕ) (cs : List Command) (e : Finished (left tags p
   abbrev room : ℕ
   room = length bytes
 
-  looked : look_of table 0 room list ≡ cut.Whole n
+  looked : look_of table 0 room list ≡ Ok n
   unfolding accepted_call
   looked = k.cuts
 
@@ -129,7 +127,7 @@ module _ (tags points : List ℕ) (cs : List Command) (e : Finished (left tags p
 -- ---- the theorem
 
 -- Where the whole way accepts with n bytes, they are what Promise.antt says.
-pub whole_way : (text : List ℕ) (z : Six) (table : Table) (tags points scene prefixes lines bytes : List ℕ) (n : ℕ) → (cut_of text (six_of z) table tags points scene prefixes lines bytes).behind.answer ≡ Whole n
+pub whole_way : (text : List ℕ) (z : Six) (table : Table) (tags points scene prefixes lines bytes : List ℕ) (n : ℕ) → (cut_of text (six_of z) table tags points scene prefixes lines bytes).behind.answer ≡ Ok n
     → Promise text (six_of z) table bytes (cut_of text (six_of z) table tags points scene prefixes lines bytes).behind.bytes n
 unfolding number_of accepted_call
 whole_way text z table tags points scene prefixes lines bytes n e =
@@ -137,7 +135,7 @@ whole_way text z table tags points scene prefixes lines bytes n e =
     let i = accepted_text fresh_pen tags points text w.read in
     let ms = meaning i.commands in
     let file = (cut_of text (six_of z) table tags points scene prefixes lines bytes).behind.bytes in
-    let zero : (left tags points ms).number ≡ 0 = ap (λ (o : Outcome). o.number) (sym (all_after ms (fresh tags points) refl i.none_refused)) ∙ i.none_refused in
+    let zero : number_of (left tags points ms).answer ≡ 0 = ap (λ (o : Outcome). number_of o.answer) (sym (all_after ms (fresh tags points) refl i.none_refused)) ∙ i.none_refused in
     let its_tags : drawn_tags_lem text tags points ≡ drawn_tags (left tags points ms) = ap (λ (t : Told). take t.pen.tags t.tags) i.drawn in
     let its_points : drawn_words text tags points ≡ drawn_points (left tags points ms) = ap (λ (t : Told). take t.pen.points t.points) i.drawn in
     let list : List ℕ → List ℕ → List ℕ = λ d u. let o = outcome (sheet_call d u (six_of z) scene prefixes lines) in take (o.answer.count * 6) o.lines in

@@ -1,6 +1,7 @@
 -- When the whole way accepts: what each part says, and the parts' own conditions. Definitions only.
-use Rattle.std.specs.Prelude.{ℕ, ◌*◌, ◌^◌, ◌<◌, ◌≤◌, ◌≡◌, true, List, length, take}
+use Rattle.std.specs.Prelude.{Ok, ℕ, ◌*◌, ◌^◌, ◌<◌, ◌≤◌, ◌≡◌, true, List, length, take}
 use Rattle.pattern.specs.Meaning.{fresh_pen, fresh}
+use Rattle.pattern.specs.Commands.{number_of}
 use Rattle.svg.specs.Language.{Means}
 use Rattle.svg.specs.Language.{Command as Svg}
 use Rattle.svg.specs.Meaning.{meaning, all_of}
@@ -12,9 +13,8 @@ use Rattle.outlines.specs.Placing.{left, drawn_tags, drawn_points}
 use Rattle.watertight.specs.Fill.{outcome}
 use Rattle.hpgl.specs.Export.{look_of}
 use Rattle.hpgl.specs.declared.Table.{Table}
-use Rattle.hpgl.specs.declared.export.Cut.TheVariants as cut
 use Rattle.cut.specs.Sheet.{six_of, tag_words, size_of}
-use Rattle.cut.specs.declared.sheet.Six.{Six}
+use Rattle.svg.specs.declared.hand.Six.{Six}
 use Rattle.whole_way.specs.Calls.{sheet_call}
 
 -- ---- what each part says
@@ -32,7 +32,7 @@ pub record Accept (drawn words six : List ℕ) (table : Table) (scene prefixes l
   pub room : size_of (length drawn) (length words) ≤ length scene
   pub passed : let c = sheet_call drawn words six scene prefixes lines in (told_of (profile_of (given c.layout c.scene c.prefixes))).number ≡ 0
   pub flattens : (outcome (sheet_call drawn words six scene prefixes lines)).answer.number ≡ 0
-  pub cuts : let o = outcome (sheet_call drawn words six scene prefixes lines) in look_of table 0 (length bytes) (take (o.answer.count * 6) o.lines) ≡ cut.Whole n
+  pub cuts : let o = outcome (sheet_call drawn words six scene prefixes lines) in look_of table 0 (length bytes) (take (o.answer.count * 6) o.lines) ≡ Ok n
 
 -- ---- the parts' own conditions
 
@@ -47,7 +47,7 @@ words_by tags points commands = drawn_points (left tags points (meaning commands
 pub record Conditions (text : List ℕ) (z : Six) (table : Table) (tags points scene prefixes lines bytes : List ℕ) (commands : List Svg) (n : ℕ) : Type 0 where
   -- the text is one of the language, and no command of it lacks room for its tag and its points
   pub means : Means text commands
-  pub drawable : (all_of (fresh tags points) (meaning commands)).number ≡ 0
+  pub drawable : number_of (all_of (fresh tags points) (meaning commands)).answer ≡ 0
   -- its sheet is below 2^31 words and the scene has room for it; a prefix is lent for each word of tags
   pub few : size_of (length (tags_by tags points commands)) (length (words_by tags points commands)) < 2 ^ 31
   pub room : size_of (length (tags_by tags points commands)) (length (words_by tags points commands)) ≤ length scene
@@ -60,4 +60,4 @@ pub record Conditions (text : List ℕ) (z : Six) (table : Table) (tags points s
   -- its lines, rounded, are within the table, and the bytes have room for the file
   pub cuts :
       let o = outcome (sheet_call (tags_by tags points commands) (words_by tags points commands) (six_of z) scene prefixes lines) in
-      look_of table 0 (length bytes) (take (o.answer.count * 6) o.lines) ≡ cut.Whole n
+      look_of table 0 (length bytes) (take (o.answer.count * 6) o.lines) ≡ Ok n

@@ -1,5 +1,5 @@
 -- The sheet that the whole way writes, as a call reads it: what commands wrote stands in it, under one fill style and one transform. Assumes nothing.
-use Rattle.std.specs.Prelude.{ℕ, zero, suc, ◌+◌, ◌-◌, ◌*◌, ◌/◌, ◌%◌, ◌^◌, ◌<◌, ◌≤◌, ◌≡◌, true, false, eqb, drop}
+use Rattle.std.specs.Prelude.{ℕ, zero, suc, ◌+◌, ◌-◌, ◌*◌, ◌/◌, ◌%◌, ◌^◌, ◌<◌, ◌≤◌, ◌≡◌, true, false, eqb, drop, Ok, is_ok}
 use Rattle.std.proofs.Math.Path.{refl, ap}
 use Rattle.std.proofs.Common.{sym, ◌∙◌, drop-drop}
 use mathlib.Core.List.{List, ◌++◌, append_assoc}
@@ -7,7 +7,6 @@ use native.Mathlib.Omega.{arith}
 use Rattle.std.proofs.Math.ListN.{length, get_or, take, length-append, get_or-append}
 use Rattle.std.proofs.Math.Seq.{take_at, drop_at}
 use borrow.Author.Tests.{lt-ltb, le-leb}
-use Rattle.refusals.specs.Refusals.{found}
 use Rattle.scene.specs.Tags.{bit, byte_at}
 use Rattle.scene.specs.Words.{word_at}
 use Rattle.scene.specs.Reading.{transform_of, flags_of}
@@ -133,15 +132,15 @@ module _ {drawn points six scene prefixes lines : List ℕ} (s : Sound drawn poi
       let at : W + length points + i ≡ W + (length points + i) = omega arith in
       sheet_word (W + length points + i) (unfold size_of in omega arith) ∙ word_of_tail drawn points six (W + length points + i) i at
 
-  tail_read : (i : ℕ) → i < 8 → word_at c.scene (W + length points + i) ≡ found (get_or (six ++ fill_style) i 0)
+  tail_read : (i : ℕ) → i < 8 → word_at c.scene (W + length points + i) ≡ Ok (get_or (six ++ fill_style) i 0)
   unfolding word_at
-  tail_read i l = rw (lt-ltb (W + length points + i) (length c.scene) (unfold size_of in omega (arith, long))) (ap found (tail_word i l))
+  tail_read i l = rw (lt-ltb (W + length points + i) (length c.scene) (unfold size_of in omega (arith, long))) (ap Ok (tail_word i l))
 
   pub fill : FillAt c 2
   unfolding flags_of sheet_call layout_by size_of
   fill =
       let at : (c.layout.style_base + style_at c 2) % 2 ^ 32 ≡ W + length points + 6 = omega (arith, s.few, begins.first_style) in
-      record { flags = 0; read = ap (word_at c.scene) at ∙ tail_read 6 (omega arith) ∙ ap found (zeros_behind six 6 (omega (arith, s.six_long))); no_stroke = refl }
+      record { flags = 0; read = ap (word_at c.scene) at ∙ tail_read 6 (omega arith) ∙ ap Ok (zeros_behind six 6 (omega (arith, s.six_long))); no_stroke = refl }
 
   -- by the nonzero rule
   pub nonzero : eqb (bit fill.flags 0x40000000) 1 ≡ false
@@ -151,13 +150,13 @@ module _ {drawn points six scene prefixes lines : List ℕ} (s : Sound drawn poi
   -- ---- what the profile asks besides
 
   -- a word stands where flags are read before the first style
-  pub before_styles : flags_of c.scene c.layout.style_base (2 ^ 32 - 2) ≡ found (get_or (six ++ fill_style) 4 0)
+  pub before_styles : flags_of c.scene c.layout.style_base (2 ^ 32 - 2) ≡ Ok (get_or (six ++ fill_style) 4 0)
   unfolding flags_of sheet_call layout_by size_of
   before_styles =
       let at : (c.layout.style_base + (2 ^ 32 - 2)) % 2 ^ 32 ≡ W + length points + 4 = omega (arith, s.few) in
       ap (word_at c.scene) at ∙ tail_read 4 (omega arith)
 
-  pub transform_there : (transform_of c.scene c.layout.transform_base 0).found ≡ true
+  pub transform_there : is_ok (transform_of c.scene c.layout.transform_base 0) ≡ true
   unfolding transform_of sheet_call layout_by size_of
   transform_there =
       let at : W + length points + 0 * 6 ≡ W + length points = omega arith in

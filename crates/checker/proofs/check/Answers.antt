@@ -1,7 +1,6 @@
--- `checker::check` meets its contract: it looks at the points of the records alone, and these are all that need looking at. Assumes nothing.
+-- `checker::check` meets its contract. Assumes nothing.
 use Rattle.checker.specs.Verdict.{Answers}
 use Rattle.checker.specs.Laws.{even_balanced}
-use Rattle.checker.proofs.Steps.{first_of_lem, none_left}
 use Rattle.checker.proofs.check.Goals as goal
 
 pub returns-then-n-gt2000 : goal.returns-then-n-gt2000
@@ -12,17 +11,16 @@ pub returns-then-list-ne0 : goal.returns-then-list-ne0
 unfolding Answers
 returns-then-list-ne0 c = (c.if-n-gt2000.false, c.if-list-ne0.true)
 
-pub returns-then-b-n : goal.returns-then-b-n
+pub returns-in-Some : goal.returns-in-Some
 unfolding Answers
-returns-then-b-n c =
-    (record { few = c.if-n-gt2000.false; whole = c.if-list-ne0.false }, first_of_lem c.first_bad-b.ensures c.if-b-n.true)
+returns-in-Some c = (record { few = c.if-n-gt2000.false; whole = c.if-list-ne0.false }, rw c.in-Some.is at c.first_bad.ensures)
 
-pub returns-then-u-n : goal.returns-then-u-n
+pub returns-in-Some-first_uneven : goal.returns-in-Some-first_uneven
 unfolding Answers
-returns-then-u-n c = (
+returns-in-Some-first_uneven c = (
   record { few = c.if-n-gt2000.false; whole = c.if-list-ne0.false },
-  none_left c.first_bad-b.ensures c.if-b-n.false,
-  first_of_lem c.first_uneven-u.ensures c.if-u-n.true,
+  rw c.in_default.is at c.first_bad.ensures,
+  rw c.in-Some-first_uneven.is at c.first_uneven.ensures,
 )
 
 pub returns : goal.returns
@@ -30,7 +28,7 @@ unfolding Answers
 returns c = (
   record { few = c.if-n-gt2000.false; whole = c.if-list-ne0.false },
   record {
-    finite = none_left c.first_bad-b.ensures c.if-b-n.false;
-    balanced = even_balanced _ (none_left c.first_uneven-u.ensures c.if-u-n.false);
+    finite = rw c.in_default.is at c.first_bad.ensures;
+    balanced = even_balanced _ (rw c.in_default-first_uneven.is at c.first_uneven.ensures);
   },
 )

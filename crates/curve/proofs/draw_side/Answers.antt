@@ -1,14 +1,14 @@
 -- `curve::draw_side` meets its contract. Assumes nothing.
-use mathlib.Core.Path.{refl, sym, ◌∙◌}
+use mathlib.Core.Path.{sym, ◌∙◌}
 use lib.Ieee.{of_bits, round}
-use Rattle.drawing.specs.PageLaws.{draws, nothing, yes, no, as_many}
+use Rattle.drawing.specs.PageLaws.{draws, nothing}
 use Rattle.curve.specs.Curve.{side_events}
 use Rattle.curve.proofs.OneLine.{one_line_side}
 use Rattle.curve.proofs.draw_side.Goals as goal
 
 pub returns-then-is_point : goal.returns-then-is_point
 unfolding side_events
-returns-then-is_point c = draws nothing (yes _ (sym c.is_point.ensures ∙ c.if-is_point.true) refl)
+returns-then-is_point c = draws nothing (rw (← c.is_point.ensures, c.if-is_point.true))
 
 pub returns-then-is_line : goal.returns-then-is_line
 unfolding of_bits round
@@ -16,13 +16,3 @@ returns-then-is_line c =
     draws c.side_line.ensures
     (sym (one_line_side c.args.side (sym c.is_point.ensures ∙ c.if-is_point.false)
     (rw (← c.first_tip-first.ensures, ← c.tip_at.ensures) (sym c.is_line.ensures ∙ c.if-is_line.true))))
-
-pub returns : goal.returns
-unfolding side_events
-returns c = draws c.walk_side.ensures (no _ (sym c.is_point.ensures ∙ c.if-is_point.false) (rw c.first_tip-first.ensures))
-
-pub shape_of-lines-then-is_line : goal.shape_of-lines-then-is_line
-shape_of-lines-then-is_line c = as_many (returns-then-is_line c)
-
-pub shape_of-lines : goal.shape_of-lines
-shape_of-lines c = as_many (returns c)

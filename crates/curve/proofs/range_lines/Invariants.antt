@@ -6,7 +6,4 @@ use Rattle.curve.proofs.range_lines.Given as goal
 
 abbrev pub invariant-loop-i : goal.invariant-loop-i
 invariant-loop-i l =
-    Left l.path l.initial.lines l.initial.so (lines_of l.side l.fit (l.n - 1) 1 l.initial.lp0 l.end) l.lines l.so (lines_of l.side l.fit (l.n - l.i) l.i l.lp0 l.end)
-
-abbrev pub decreases-loop-i : goal.decreases-loop-i
-decreases-loop-i l = l.n - l.i
+    Left l.initial.lines l.initial.nib (lines_of l.side l.fit (l.n - 1) 1 l.initial.lp0 l.end) l.lines l.nib (lines_of l.side l.fit (l.n - l.i) l.i l.lp0 l.end)

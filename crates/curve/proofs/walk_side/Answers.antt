@@ -1,11 +1,10 @@
 -- `curve::walk_side` meets its contract: the loop stands at a place of the tree, and what is left there comes to the same.
 -- The measure is at most 131,071 at the start and falls at every turn, so there are at most as many turns. Assumes nothing.
-use mathlib.Core.Path.{sym, ◌∙◌}
 use Prim.Native.Nat.{ℕ, ◌≤◌, ◌<◌}
 use native.Mathlib.Nat.{le_of_eq}
 use native.Mathlib.Omega.{arith}
 use lib.Ieee.{of_bits, round}
-use Rattle.drawing.specs.PageLaws.{begin, nothing, turn, done, halts, as_many}
+use Rattle.drawing.specs.PageLaws.{begin, nothing, turn, done, halts}
 use Rattle.curve.proofs.Walk.{here_start, left_start, small, at_end, below, few_zeros, next, next_less, taken, half, half_less}
 use Rattle.curve.proofs.walk_side.Goals as goal
 
@@ -22,8 +21,13 @@ returns-then-t0 c =
     let i = c.loop-side.invariant in
     done i.1 (at_end i.2 c.from_u32.ensures c.if-t0.true) nothing
 
-pub returns-then-stopped : goal.returns-then-stopped
-returns-then-stopped c = halts c.loop-side.invariant.1 (sym c.stopped.ensures ∙ c.if-stopped.true)
+pub returns-in_err-nib : goal.returns-in_err-nib
+unfolding of_bits round
+returns-in_err-nib c =
+    let i = c.loop-side.invariant in
+    halts _ i.1
+    (taken i.2 c.from_u32.ensures c.if-t0.false c.tip_at-to.ensures c.params_of-params.ensures c.accepts.ensures c.if-accepts.true c.fit_range-fit.ensures c.range_end-end.ensures)
+    c.in_err-nib.ensures c.from_residual.ensures.1
 
 pub overflow_add-t0_u : goal.overflow_add-t0_u
 unfolding of_bits
@@ -51,7 +55,7 @@ loop-side-preserved-then-accepts c =
     let i = c.loop-side.invariant in
     let w = c.from_u32.ensures in (
       _,
-      turn i.1 (taken i.2 w c.if-t0.false c.tip_at-to.ensures c.params_of-params.ensures c.accepts.ensures c.if-accepts.true c.fit_range-fit.ensures c.range_end-end.ensures) c.draw_range-so.ensures,
+      turn i.1 (taken i.2 w c.if-t0.false c.tip_at-to.ensures c.params_of-params.ensures c.accepts.ensures c.if-accepts.true c.fit_range-fit.ensures c.range_end-end.ensures) c.in_ok-nib.ensures,
       next i.2 w c.if-t0.false c.from_u32-dt.ensures _,
       fewer (loop-side-smaller-then-accepts c) i.3,
     )
@@ -73,9 +77,3 @@ loop-side-preserved c =
       half i.2 c.from_u32.ensures c.if-t0.false c.tip_at-to.ensures c.params_of-params.ensures c.accepts.ensures c.if-accepts.false,
       fewer (loop-side-smaller c) i.3,
     )
-
-pub shape_of-lines-then-t0 : goal.shape_of-lines-then-t0
-shape_of-lines-then-t0 c = as_many (returns-then-t0 c)
-
-pub shape_of-lines-then-stopped : goal.shape_of-lines-then-stopped
-shape_of-lines-then-stopped c = as_many (returns-then-stopped c)

@@ -11,7 +11,7 @@ use Rattle.curve.proofs.walk_side.Given as goal
 abbrev pub invariant-loop-side : goal.invariant-loop-side
 invariant-loop-side l =
     (es : List Event)
-    × Left l.path l.initial.lines l.initial.so (flatten (walk l.side 16 0 (front_of l.initial.last l.initial.lp0)).ranges) l.lines l.so es
+    × Left l.initial.lines l.initial.nib (flatten (walk l.side 16 0 (front_of l.initial.last l.initial.lp0)).ranges) l.lines l.nib es
     × Here l.side es l.t0_u l.dt (front_of l.last l.lp0)
     × (left l.t0_u l.dt ≤ 131071)
 

@@ -5,14 +5,12 @@ use lib.Ieee.{Float, binary32, of_bits, fits, to_bits}
 use Rattle.roots.specs.Root.{cbrt_of, nearest_root}
 use Rattle.roots.specs.Rules.{cbrt_nan, cbrt_infinity, cbrt_zero}
 use Rattle.roots.specs.Parts.{mag_bits}
-use Rattle.roots.proofs.Patterns.{worth, infinite, is_zero, sign_bits, cbrt_of_lem, zero_stays, mag_pos, is_nan_lem, is_number, no_nan_pattern}
+use Rattle.roots.proofs.Patterns.{worth, infinite, is_zero, sign_bits, cbrt_of_lem, zero_stays, mag_pos, is_number, no_nan_pattern}
+use Rattle.laws.specs.Nan.{nan_is}
 use Rattle.roots.proofs.cbrt.Goals as goal
 
-pub returns-then-x : goal.returns-then-x
-returns-then-x c = let z = is_nan_lem c.args.x c.if-x.true in z ∙ sym cbrt_nan ∙ ap (λ (v : Float). cbrt_of v) (sym z)
-
-pub float_to_bits-b : goal.float_to_bits-b
-float_to_bits-b c = is_number c.args.x c.if-x.false
+pub returns-then-is_nan : goal.returns-then-is_nan
+returns-then-is_nan c = let z = nan_is c.args.x (subst T (sym (sym c.is_nan.ensures.value ∙ c.if-is_nan.true)) tt) in z ∙ sym cbrt_nan ∙ ap (λ (v : Float). cbrt_of v) (sym z)
 
 pub returns-then-a-eq0 : goal.returns-then-a-eq0
 returns-then-a-eq0 c = zero_stays _ _ (is_zero _ (subst T (sym c.well_formed.0.1) tt) c.if-a-eq0.true) cbrt_of cbrt_zero
@@ -41,4 +39,4 @@ infinity : (x : Float) → T (fits binary32 x) → T (not (lib.Ieee.is_nan x)) �
 infinity x F N l = let z = infinite x F N l in z ∙ sym (cbrt_infinity _) ∙ ap (λ (v : Float). cbrt_of v) (sym z)
 
 pub returns : goal.returns
-returns c = infinity _ (subst T (sym c.well_formed.0.1) tt) (is_number _ c.if-x.false) c.if-a-lt2139095040.false
+returns c = infinity _ (subst T (sym c.well_formed.0.1) tt) (is_number _ (sym c.is_nan.ensures.value ∙ c.if-is_nan.false)) c.if-a-lt2139095040.false

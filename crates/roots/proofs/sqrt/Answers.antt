@@ -4,7 +4,7 @@ use lib.Ieee.Bits.{to_bits-lt}
 use lib.Ieee.{Float, binary32, of_bits, to_bits, fits}
 use Rattle.roots.specs.Root.{sqrt_of, nearest_root}
 use Rattle.roots.specs.Parts.{mag_bits, root_bits}
-use Rattle.roots.proofs.Patterns.{is_number, no_nan_pattern}
+use Rattle.roots.proofs.Patterns.{no_nan_pattern}
 use Rattle.roots.proofs.Upward.{sqrt_is, keeps_nan, positive}
 use Rattle.roots.proofs.sqrt.Goals as goal
 
@@ -21,11 +21,8 @@ of_normal x r F h l R =
     ∙ ap (λ (n : ℕ). nearest_root false 2 (mag_bits n * 2 ^ 149)) (sym e)
     ∙ sym (positive _ _ sqrt_is x F (λ z. lt_irrefl 0 (omega arith)) (omega arith) (omega arith))
 
-pub returns-then-x : goal.returns-then-x
-returns-then-x c = keeps_nan _ _ sqrt_is _ c.if-x.true
-
-pub float_to_bits-b : goal.float_to_bits-b
-float_to_bits-b c = is_number _ c.if-x.false
+pub returns-then-is_nan : goal.returns-then-is_nan
+returns-then-is_nan c = keeps_nan _ _ sqrt_is _ (sym c.is_nan.ensures.value ∙ c.if-is_nan.true)
 
 pub float_from_bits-result : goal.float_from_bits-result
 float_from_bits-result c = let h = c.sqrt_bits.ensures.number in no_nan_pattern c.sqrt_bits.result (omega arith)

@@ -8,6 +8,3 @@ use Rattle.trig.proofs.atan_flat.Goals as goal
 pub returns-then-t-2 : goal.returns-then-t-2
 unfolding of_bits
 returns-then-t-2 c = sym (flat c.args.t (subst T (sym c.well_formed.0.1) tt) (subst T (sym c.if-t.true) tt) (subst T (sym c.if-t-2.true) tt))
-
-pub returns : goal.returns
-returns c = c.atan_near.ensures

@@ -1,6 +1,7 @@
 -- `trig::sin` meets its contract. Assumes nothing.
 use mathlib.Core.Path.{◌≡◌, refl}
 use mathlib.Core.Bool.{Bool, true, false, cond}
+use native.Mathlib.Nat.{add-zero}
 use lib.Ieee.{Float, nan, neg}
 use Rattle.numbers.specs.Words.{signed}
 use Rattle.trig.specs.Trig.{sin_of}
@@ -19,4 +20,4 @@ returns-then-s c = sin_direct _ _ c.if-x.true c.sin_near-s.ensures c.if-s.true
 
 pub returns : goal.returns
 unfolding sin_of
-returns c = rw (c.turned.ensures, c.sine.ensures, apart, c.abs.ensures, c.is_negative.ensures)
+returns c = rw (c.turned.ensures, c.curve.ensures, add-zero, apart, c.abs.ensures, c.is_negative.ensures)

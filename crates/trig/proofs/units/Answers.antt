@@ -1,9 +1,8 @@
 -- `trig::units` meets its contract. Assumes nothing.
 use mathlib.Core.Path.{◌≡◌, ap, sym, ◌∙◌}
-use Prim.Native.Nat.{ℕ, ◌+◌, ◌-◌, ◌*◌, ◌/◌, ◌%◌, ◌^◌, ◌≤◌, ◌<◌}
-use native.Mathlib.Nat.{mul-le-mul, mod-lt}
+use Prim.Native.Nat.{ℕ, ◌+◌, ◌-◌, ◌*◌, ◌/◌, ◌%◌, ◌^◌, ◌<◌}
 use native.Mathlib.Omega.{arith}
-use lib.Pow.{pow_pos, shr-shr}
+use lib.Pow.{shr-shr}
 use Rattle.trig.specs.Trig.{two_over_pi, units_of}
 use Rattle.trig.proofs.units.Goals as goal
 
@@ -33,33 +32,6 @@ low e = omega arith
 units_are : (m e : ℕ) {h l : ℕ} → e < 256 → h ≡ two_over_pi / 2 ^ (320 - (e + 8)) % 2 ^ 32 → l ≡ two_over_pi / 2 ^ (320 - (e + 40)) % 2 ^ 32
     → (m * h * 256 + m * l / 2 ^ 24 + 2 ^ 37) % 2 ^ 40 ≡ (m * (two_over_pi / 2 ^ (280 - e)) / 2 ^ 24 + 2 ^ 37) % 2 ^ 40
 units_are m e b p q = rw (p, q, high e b, low e) (halves m (two_over_pi / 2 ^ (280 - e)))
-
--- ---- nothing wraps
-product : (b k : ℕ) {h : ℕ} → h ≡ two_over_pi / 2 ^ k % 2 ^ 32 → (2 ^ 23 + b % 2 ^ 23) * h ≤ 16777215 * 4294967295
-product b k e =
-    let d = mod-lt (two_over_pi / 2 ^ k) {m = 2 ^ 32} (pow_pos 32) in
-    mul-le-mul {n₂ = 16777215} {m₂ = 4294967295} (omega arith) (omega arith)
-
-pub overflow_mul-result : goal.overflow_mul-result
-overflow_mul-result c = let p = product c.args.b _ c.digits.ensures in record { fits = omega arith }
-
-pub overflow_mul-result-2 : goal.overflow_mul-result-2
-overflow_mul-result-2 c = let p = product c.args.b _ c.digits.ensures in record { fits = omega arith }
-
-pub overflow_mul-result-3 : goal.overflow_mul-result-3
-overflow_mul-result-3 c = let p = product c.args.b _ c.digits-2.ensures in record { fits = omega arith }
-
-pub overflow_add-result : goal.overflow_add-result
-overflow_add-result c =
-    let p = product c.args.b _ c.digits.ensures in
-    let q = product c.args.b _ c.digits-2.ensures in
-    record { fits = omega arith }
-
-pub overflow_add-result-2 : goal.overflow_add-result-2
-overflow_add-result-2 c =
-    let p = product c.args.b _ c.digits.ensures in
-    let q = product c.args.b _ c.digits-2.ensures in
-    record { fits = omega arith }
 
 pub returns : goal.returns
 unfolding units_of

@@ -1,16 +1,16 @@
 -- `cut::sheet::size_of` meets its contract. Assumes nothing.
-use Prim.Native.Nat.{◌+◌}
-use mathlib.Core.Path.{◌≡◌, ◌∙◌}
-use native.Mathlib.Omega.{arith}
-use Rattle.cut.specs.Sheet.{groups, tag_words, size_of}
-use Rattle.cut.specs.SheetLaws.{told_small, told_large, many_tags, many_points}
+use Rattle.std.proofs.Common.{◌+◌, ◌^◌, ◌<◌, ◌≤◌, arith, lt-ltb, le-ltb}
+use Rattle.cut.specs.Sheet.{groups, tag_words, size_of, small_size}
+use Rattle.cut.specs.SheetLaws.{many_tags, many_points}
 use Rattle.cut.proofs.sheet.size_of.Goals as goal
 
 pub returns-then-n-ge8589934592 : goal.returns-then-n-ge8589934592
-returns-then-n-ge8589934592 c = told_large _ _ (many_tags _ _ (omega arith))
+unfolding small_size
+returns-then-n-ge8589934592 c = rw (le-ltb _ _ (many_tags c.args.n c.args.m (omega arith)))
 
 pub returns-then-m-ge2147483648 : goal.returns-then-m-ge2147483648
-returns-then-m-ge2147483648 c = told_large _ _ (many_points _ _ (omega arith))
+unfolding small_size
+returns-then-m-ge2147483648 c = rw (le-ltb _ _ (many_points c.args.n c.args.m (omega arith)))
 
 pub overflow_add-size : goal.overflow_add-size
 unfolding tag_words groups
@@ -21,11 +21,13 @@ unfolding tag_words groups
 overflow_add-size-2 c = record { fits = omega (arith, c.tag_words.ensures) }
 
 pub returns-then-size-ge2147483648 : goal.returns-then-size-ge2147483648
-unfolding size_of
-returns-then-size-ge2147483648 c = told_large _ _ (omega (arith, c.tag_words.ensures))
+unfolding size_of small_size
+returns-then-size-ge2147483648 c =
+    let large : 2 ^ 31 ≤ tag_words c.args.n + c.args.m + 8 = omega (arith, c.tag_words.ensures) in
+    rw (le-ltb _ _ large)
 
 pub returns : goal.returns
-unfolding size_of
+unfolding size_of small_size
 returns c =
-    let is : c.tag_words.result + c.args.m + 8 ≡ size_of c.args.n c.args.m = omega (arith, c.tag_words.ensures) in
-    is ∙ told_small _ _ (omega (arith, is))
+    let small : tag_words c.args.n + c.args.m + 8 < 2 ^ 31 = omega (arith, c.tag_words.ensures) in
+    rw (lt-ltb _ _ small, c.tag_words.ensures)

@@ -1,15 +1,14 @@
 -- `cut::way::profile_stage` meets its contract. Assumes nothing.
-use mathlib.Core.Path.{sym, ◌∙◌}
+use Rattle.std.proofs.Common.{sym, ◌∙◌}
 use Rattle.cut.proofs.Ways.{profile_refused, profile_goes}
 use Rattle.cut.proofs.way.profile_stage.Goals as goal
 
-pub returns-then-verdict-ne0 : goal.returns-then-verdict-ne0
-returns-then-verdict-ne0 c =
+pub returns-in-Ok : goal.returns-in-Ok
+returns-in-Ok c =
     let s = c.args in
-    profile_refused s.layout s.table s.scene.now s.prefixes.now s.lines.now s.bytes.now _ c.told-verdict.result c.test_scene.ensures c.told-verdict.ensures c.if-verdict-ne0.true
+    c.flatten_stage.ensures ∙ sym (profile_goes s.layout s.table s.scene.now s.prefixes.now s.lines.now s.bytes.now _ c.test_scene.ensures _ c.in-Ok.is)
 
-pub returns : goal.returns
-returns c =
+pub returns-in-Err : goal.returns-in-Err
+returns-in-Err c =
     let s = c.args in
-    c.flatten_stage.ensures
-    ∙ sym (profile_goes s.layout s.table s.scene.now s.prefixes.now s.lines.now s.bytes.now _ c.told-verdict.result c.test_scene.ensures c.told-verdict.ensures c.if-verdict-ne0.false)
+    rw c.refused.ensures (profile_refused s.layout s.table s.scene.now s.prefixes.now s.lines.now s.bytes.now _ c.test_scene.ensures _ c.in-Err.is _ c.number.ensures)

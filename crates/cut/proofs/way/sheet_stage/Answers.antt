@@ -1,16 +1,16 @@
 -- `cut::way::sheet_stage` meets its contract. Assumes nothing.
-use mathlib.Core.Path.{sym, ◌∙◌}
+use Rattle.std.proofs.Common.{sym, ◌∙◌}
 use Rattle.cut.specs.Sheet.{six_of}
 use Rattle.cut.proofs.Ways.{sheet_refused, sheet_goes}
 use Rattle.cut.proofs.way.sheet_stage.Goals as goal
 
-pub returns-in-Sheet : goal.returns-in-Sheet
-returns-in-Sheet c =
+pub returns-in-Ok : goal.returns-in-Ok
+returns-in-Ok c =
     let s = c.args in
     c.scan_stage.ensures
-    ∙ sym (sheet_goes s.tags.now s.points.now (six_of s.six) s.table s.scene.now s.prefixes.now s.lines.now s.bytes.now _ _ c.lay.ensures _ c.in-Sheet.is)
+    ∙ sym (sheet_goes s.tags.now s.points.now (six_of s.six) s.table s.scene.now s.prefixes.now s.lines.now s.bytes.now _ _ c.lay.ensures _ c.in-Ok.is)
 
-pub returns-in-NoRoom : goal.returns-in-NoRoom
-returns-in-NoRoom c =
+pub returns-in-Err : goal.returns-in-Err
+returns-in-Err c =
     let s = c.args in
-    sheet_refused s.tags.now s.points.now (six_of s.six) s.table s.scene.now s.prefixes.now s.lines.now s.bytes.now _ _ c.lay.ensures _ c.in-NoRoom.is
+    rw c.refused.ensures (sheet_refused s.tags.now s.points.now (six_of s.six) s.table s.scene.now s.prefixes.now s.lines.now s.bytes.now _ _ c.lay.ensures _ c.in-Err.is)

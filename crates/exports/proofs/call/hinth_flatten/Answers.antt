@@ -1,8 +1,7 @@
 -- `exports::call::hinth_flatten` meets its contract: the call's answer and lists, and the report of the answer. Assumes nothing.
 use Rattle.std.proofs.Common.{◌≡◌, ℕ, List, ap, ◌∙◌}
 use Rattle.flatten.specs.declared.boxes.PathBox.{PathBox}
-use Rattle.flatten.specs.declared.call.Answer.{Answer}
-use Rattle.flatten.specs.Call.{Outcome, told_of, report_of, outcome}
+use Rattle.flatten.specs.Call.{Answer, Outcome, told_of, report_of, outcome}
 use Rattle.exports.specs.Call.{reported, reported_of}
 use Rattle.exports.proofs.call.hinth_flatten.Goals as goal
 

@@ -4,11 +4,13 @@ use mathlib.Core.Path.{◌≡◌, ap, ◌∙◌}
 use mathlib.Core.List.{List}
 use Rattle.checker.specs.Verdict.{Answers, told_of}
 use Rattle.checker.specs.declared.Told.{Told}
+use Rattle.std.proofs.Common.{Result}
+use Rattle.checker.specs.declared.CheckError.{CheckError}
 use Rattle.checker.specs.declared.Verdict.{Verdict}
 use Rattle.exports.specs.Check.{two_of, Checked}
 use Rattle.exports.proofs.check.hinth_check.Goals as goal
 
-checked : {list os os' : List ℕ} (v : Verdict) (t : Told) → Answers list v → t ≡ told_of v → os' ≡ two_of t.verdict t.«record» os → Checked list os t.number os'
+checked : {list os os' : List ℕ} (v : Result Verdict CheckError) (t : Told) → Answers list v → t ≡ told_of v → os' ≡ two_of t.verdict t.«record» os → Checked list os t.number os'
 checked {os = os} v t a e w =
     record {
       verdict = v;
@@ -19,4 +21,4 @@ checked {os = os} v t a e w =
 
 pub returns : goal.returns
 returns c =
-    checked c.check.result c.told-told.result c.check.ensures c.told-told.ensures c.put_two.ensures
+    checked c.check.result c.from-told.result c.check.ensures c.from-told.ensures c.put_told.ensures

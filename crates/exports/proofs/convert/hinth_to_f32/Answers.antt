@@ -4,4 +4,4 @@ use Rattle.exports.proofs.convert.hinth_to_f32.Goals as goal
 
 pub returns : goal.returns
 returns c =
-    reported c.to_f32.result c.told-told.result _ _ c.to_f32.ensures c.told-told.ensures c.put_three.ensures
+    reported c.to_f32.result c.from-told.result _ _ c.to_f32.ensures c.from-told.ensures c.put_told.ensures

@@ -4,4 +4,4 @@ use Rattle.exports.proofs.convert.hinth_to_i16.Goals as goal
 
 pub returns : goal.returns
 returns c =
-    reported c.to_i16.result c.told-back.result _ _ c.to_i16.ensures c.told-back.ensures c.put_three.ensures
+    reported c.to_i16.result c.from-back.result _ _ c.to_i16.ensures c.from-back.ensures c.put_told.ensures

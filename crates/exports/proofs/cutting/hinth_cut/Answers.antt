@@ -2,9 +2,8 @@
 use mathlib.Core.Path.{◌≡◌, sym}
 use mathlib.Core.List.{List}
 use Prim.Native.Nat.{ℕ}
-use Rattle.hpgl.specs.Export.{Outcome, outcome, cut_report}
+use Rattle.hpgl.specs.Export.{Cut, Outcome, outcome, cut_report}
 use Rattle.hpgl.specs.declared.Report.{Report}
-use Rattle.hpgl.specs.declared.export.Cut.{Cut}
 use Rattle.exports.specs.Check.{two_of}
 use Rattle.exports.specs.Cut.{written, written_of}
 use Rattle.exports.proofs.cutting.hinth_cut.Goals as goal
@@ -14,4 +13,4 @@ unfolding written_of
 told_cut a bs o t os os' e f g = rw (sym e, g, f)
 
 pub returns : goal.returns
-returns c = told_cut c.export.result _ _ c.report-report.result _ _ c.export.ensures c.report-report.ensures c.put_two.ensures
+returns c = told_cut c.export.result _ _ c.from-report.result _ _ c.export.ensures c.from-report.ensures c.put_told.ensures

@@ -2,8 +2,7 @@
 use Prim.Native.Nat.{ℕ}
 use mathlib.Core.Path.{◌≡◌, ap, ◌∙◌}
 use mathlib.Core.List.{List}
-use Rattle.mender.specs.Report.{Lent, Mends, told_of}
-use Rattle.mender.specs.declared.list.Outcome.{Outcome}
+use Rattle.mender.specs.Report.{Outcome, Lent, Mends, told_of}
 use Rattle.mender.specs.declared.list.Told.{Told}
 use Rattle.exports.specs.Check.{two_of}
 use Rattle.exports.specs.Mend.{MendedBy}
@@ -21,4 +20,4 @@ mended {os = os} o t m e w =
 
 pub returns : goal.returns
 returns c =
-    mended c.mend.result c.told-told.result c.mend.ensures c.told-told.ensures c.put_two.ensures
+    mended c.mend.result c.from-told.result c.mend.ensures c.from-told.ensures c.put_told.ensures

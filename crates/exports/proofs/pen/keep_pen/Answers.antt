@@ -1,16 +1,18 @@
 -- `exports::pen::keep_pen` meets its contract. Assumes nothing.
-use mathlib.Core.Path.{sym, ◌∙◌}
-use Rattle.exports.specs.Pen.{kept_by}
-use Rattle.exports.proofs.Pens.{kept_new, kept_old}
+use mathlib.Core.Path.{ap}
+use mathlib.Core.List.{List}
+use Prim.Native.Nat.{ℕ}
+use Rattle.std.specs.Prelude.{Err}
+use Rattle.pattern.specs.Commands.{number_of}
+use Rattle.exports.specs.Pen.{kept_by, penned}
+use Rattle.exports.proofs.Pens.{kept_old}
 use Rattle.exports.proofs.pen.keep_pen.Goals as goal
 
-pub returns-then-number-eq0 : goal.returns-then-number-eq0
-unfolding kept_by
-returns-then-number-eq0 c =
-    let a = c.args in
-    (c.number-number.ensures, kept_new _ a.drew.pen a.words.now _ (sym c.number-number.ensures ∙ c.if-number-eq0.true) c.put_pen.ensures)
+pub returns-in-Ok : goal.returns-in-Ok
+unfolding number_of kept_by
+returns-in-Ok c pen tags points = rw (c.in-Ok.is, c.put_pen.ensures)
 
-pub returns : goal.returns
-returns c =
-    let a = c.args in
-    (c.number-number.ensures, kept_old _ a.drew.pen a.words.now (λ e. c.if-number-eq0.false (c.number-number.ensures ∙ e)))
+pub returns-in-Err : goal.returns-in-Err
+returns-in-Err c pen tags points =
+    rw (c.in-Err.is, c.number.ensures)
+    (ap (λ (ws : List ℕ). penned (number_of (Err c.in-Err.fault)) ws tags points) (kept_old c.in-Err.fault pen c.args.words.now))

@@ -4,12 +4,12 @@ use Rattle.scene.specs.Tags.{scan_told}
 use Rattle.exports.specs.Scan.{scanned_of}
 use Rattle.exports.proofs.scan.hinth_scan.Goals as goal
 
-pub returns-in-Filled : goal.returns-in-Filled
+pub returns-in-Ok : goal.returns-in-Ok
 unfolding scanned_of scan_told
-returns-in-Filled c =
-    rw (c.put_first.ensures, sym c.scan.ensures, c.in-Filled.is)
+returns-in-Ok c =
+    rw (c.put_told.ensures, sym c.scan.ensures, c.in-Ok.is)
 
-pub returns-in-PastEnd : goal.returns-in-PastEnd
+pub returns-in-Err : goal.returns-in-Err
 unfolding scanned_of scan_told
-returns-in-PastEnd c =
-    rw (c.number.ensures, c.put_first-in-PastEnd.ensures, sym c.scan.ensures, c.in-PastEnd.is)
+returns-in-Err c =
+    rw (c.number.ensures, c.put_told-in-Err.ensures, sym c.scan.ensures, c.in-Err.is)

@@ -3,10 +3,9 @@ use Rattle.std.proofs.Common.{◌≡◌, ℕ, suc, ◌+◌, ◌-◌, ◌*◌, �
 use Rattle.flatten.specs.declared.boxes.PathBox.{PathBox}
 use Rattle.flatten.specs.declared.call.Turn.{Turn}
 use Rattle.flatten.specs.declared.call.Layout.{Layout}
-use Rattle.flatten.specs.declared.call.Answer.{Answer}
 use Rattle.flatten.specs.Boxes.{changed_at}
 use Rattle.flatten.specs.Step.{stepped, step_of}
-use Rattle.flatten.specs.Call.{State, taken, first_turn, start_at, start_of, next, after, answer_of, told_of, outcome, outcome_of, call_of, after_by, call_by}
+use Rattle.flatten.specs.Call.{State, taken, first_turn, start_at, start_of, next, after, Answer, answer_of, told_of, outcome, outcome_of, call_of, after_by, call_by}
 use Rattle.flatten.specs.CallLaws.{moves, one_more_lem, stays}
 use Rattle.flatten.proofs.call.flatten_main.Invariants.{starting}
 use Rattle.std.proofs.lemmas.Bool.Decides.{nat_tests}

@@ -15,7 +15,7 @@ pub record Going (layout : Layout) (scene prefixes : List ℕ) (ps : List PathBo
   pub same : s ≡ after behind layout scene prefixes (starting (start_of layout (length scene)) ps ws)
 
 abbrev pub invariant-loop-t : goal.invariant-loop-t
-invariant-loop-t l = Going l.layout l.scene l.prefixes l.initial.boxes l.initial.lines (starting l.t l.boxes l.lines)
+invariant-loop-t l = Going l.fn.layout l.scene l.prefixes l.initial.boxes l.initial.lines (starting l.t l.boxes l.lines)
 
 abbrev pub decreases-loop-t : goal.decreases-loop-t
 decreases-loop-t l = l.t.left

@@ -31,18 +31,18 @@ said ws us t u e h = (ap (λ (x : Told). x.number) e, h ∙ ap (λ (x : Told). r
 
 pub returns-then-out-lt2 : goal.returns-then-out-lt2
 returns-then-out-lt2 c =
-    let t = c.told-told in
+    let t = c.from-told in
     let ws = c.args.out.now in
     said ws ws t.result _ t.ensures (untouched ws t.result c.if-out-lt2.true)
 
 pub returns-then-out-lt3 : goal.returns-then-out-lt3
 returns-then-out-lt3 c =
-    let t = c.told-told in
+    let t = c.from-told in
     let ws = c.args.out.now in
     said ws _ t.result _ t.ensures (two_words ws t.result c.if-out-lt2.false c.if-out-lt3.true)
 
 pub returns : goal.returns
 returns c =
-    let t = c.told-told in
+    let t = c.from-told in
     let ws = c.args.out.now in
     said ws _ t.result _ t.ensures (three_words ws t.result c.if-out-lt3.false)

@@ -2,9 +2,6 @@
 use Rattle.flatten.specs.Step.{turn_of}
 use Rattle.flatten.proofs.step.turn_of.Goals as goal
 
-pub returns-in-On : goal.returns-in-On
+pub returns-in-Ok : goal.returns-in-Ok
 unfolding turn_of
-returns-in-On c = rw (c.in-On.is, c.next_index.ensures, c.one_less.ensures, c.change_of-change.ensures)
-
-pub returns-in-Stopped : goal.returns-in-Stopped
-returns-in-Stopped c = rw c.in-Stopped.is c.stopped_at.ensures
+returns-in-Ok c = rw (c.in-Ok.is, c.next_index.ensures, c.one_less.ensures, c.change_of-change.ensures)

@@ -1,14 +1,11 @@
 -- `hpgl::reading::value_of` meets its contract. Assumes nothing.
-use Rattle.numbers.proofs.Integers.{plus, minus, minus_fits}
+use Rattle.numbers.proofs.Integers.{plus, minus}
 use mathlib.Core.Path.{◌∙◌}
 use Prim.Native.Nat.{◌+◌}
 use native.Mathlib.Numerals.{add-one}
 use native.Mathlib.Omega.{arith}
 use Rattle.hpgl.specs.Reading.{value_of}
 use Rattle.hpgl.proofs.reading.value_of.Goals as goal
-
-pub overflow_sub-result : goal.overflow_sub-result
-overflow_sub-result c = minus_fits (c.args.w + 1) (omega arith)
 
 pub returns-then-s : goal.returns-then-s
 unfolding value_of

@@ -1,15 +1,11 @@
 -- `mender::cases::first` meets its contract. Assumes nothing.
-use Rattle.checker.proofs.Steps.{start, pass, stop, end}
+use Rattle.std.proofs.Common.{◌≡◌, true, false, rules, tests}
+use Rattle.std.proofs.lemmas.Iterator.{first_from_Range}
+use Rattle.checker.proofs.Steps.{finds}
+use Rattle.mender.specs.Sought.{sought_at}
 use Rattle.mender.proofs.cases.first.Goals as goal
 
-pub loop-k-init : goal.loop-k-init
-loop-k-init c = start _ _
-
-pub returns-then-sought_at : goal.returns-then-sought_at
-returns-then-sought_at c = stop c.loop-k.invariant c.sought_at.ensures c.if-sought_at.true
-
-pub loop-k-preserved : goal.loop-k-preserved
-loop-k-preserved c = pass c.loop-k.invariant c.loop-k-test.true c.sought_at.ensures c.if-sought_at.false
-
 pub returns : goal.returns
-returns c = end c.loop-k.invariant c.loop-k-test.false
+returns c =
+    let f = sought_at c.args.list.now c.args.path c.args.what in
+    finds f _ c.find.result (first_from_Range _ _ _ _ (λ i. f i ≡ true) (λ i. f i ≡ false) c.find.ensures.ran (λ x q k. search (rules, tests)) (λ x q k. (search rules, search (rules, tests))))

@@ -11,4 +11,4 @@ returns-then-word_at-path c = rw (ne_eqb _ _ (λ e. c.if-word_at-path.true (c.wo
 pub returns : goal.returns
 unfolding sought_at
 returns c =
-    rw (eq-eqb _ _ (sym c.word_at.ensures ∙ c.if-word_at-path.false), c.is_sought.ensures, c.count_both.ensures, c.key_at-d.ensures, c.key_at-c.ensures, c.key_at-b.ensures, c.key_at-a.ensures)
+    rw (eq-eqb _ _ (sym c.word_at.ensures ∙ c.if-word_at-path.false), c.is_sought.ensures, c.count_both.ensures, c.keys_at-line.ensures)

@@ -5,17 +5,18 @@ use mathlib.Core.List.{List}
 use native.Mathlib.Omega.{arith}
 use lib.ListN.{length}
 use lib.Seq.{sets}
+use Rattle.records.specs.declared.Line.{Line}
 use Rattle.mender.specs.Mend.{line_of}
 use Rattle.mender.specs.Report.{appended_of}
 use Rattle.mender.specs.declared.cases.Case.{Case}
 use Rattle.mender.specs.declared.cases.Case.TheVariants.{Sound, Mended, NotMended}
 use Rattle.mender.proofs.list.append.Goals as goal
 
-room_for : (p at n : ℕ) {d : Case} {x y z w : ℕ} → d ≡ Mended x y z w → at + length (appended_of p d) ≤ n → at + 5 < n
+room_for : (p at n : ℕ) {d : Case} {g : Line} → d ≡ Mended g → at + length (appended_of p d) ≤ n → at + 5 < n
 unfolding appended_of
 room_for p at n e h = let l = (rw e at h) in omega arith
 
-one_line : (l : List ℕ) (p at : ℕ) {d : Case} {x y z w : ℕ} → d ≡ Mended x y z w → sets l at (line_of p x y z w) ≡ sets l at (appended_of p d)
+one_line : (l : List ℕ) (p at : ℕ) {d : Case} {g : Line} → d ≡ Mended g → sets l at (line_of p g.x g.y g.z g.w) ≡ sets l at (appended_of p d)
 unfolding appended_of
 one_line l p at e = rw e
 

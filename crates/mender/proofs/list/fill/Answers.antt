@@ -46,9 +46,3 @@ unfolding Mends
 returns c =
     let p = c.look-plan in
     (c.requires.0, c.requires.1, fits _ _ _ _ _ _ p.ensures.0 c.if-room-lines.false c.if-report-paths.false c.if-list-lines-gt2000.false, p.ensures.0, c.write.ensures)
-
-pub write-requires : goal.write-requires
-write-requires c =
-    let p = c.look-plan in
-    let a = c.args in
-    (omega (arith, p.ensures.0.of_lines, c.if-room-lines.false), omega (arith, p.ensures.0.of_paths, c.if-report-paths.false))

@@ -15,19 +15,19 @@ use Rattle.mender.proofs.list.lines_of.Goals as goal
 sound : (d : Case) → OneOf (0 ∷ []) (tag_of the_type d) → (p : ℕ) → 0 * 6 ≡ length (appended_of p d)
 unfolding appended_of
 sound Sound k p = refl
-sound (Mended x y z w) k p = absurd (omega arith)
+sound (Mended g) k p = absurd (omega arith)
 sound NotMended k p = refl
 
 mended : (d : Case) → OneOf (1 ∷ []) (tag_of the_type d) → (p : ℕ) → 1 * 6 ≡ length (appended_of p d)
 unfolding appended_of
 mended Sound k p = absurd (omega arith)
-mended (Mended x y z w) k p = refl
+mended (Mended g) k p = refl
 mended NotMended k p = absurd (omega arith)
 
 not_mended : (d : Case) → OneOf (2 ∷ []) (tag_of the_type d) → (p : ℕ) → 0 * 6 ≡ length (appended_of p d)
 unfolding appended_of
 not_mended Sound k p = refl
-not_mended (Mended x y z w) k p = absurd (omega arith)
+not_mended (Mended g) k p = absurd (omega arith)
 not_mended NotMended k p = refl
 
 pub returns-in-Sound : goal.returns-in-Sound

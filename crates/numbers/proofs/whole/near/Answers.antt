@@ -12,9 +12,9 @@ returns-then-n-a c =
     let a = c.args.a in
     raised a c.requires.unsigned c.requires.small (yes c.if-n-a.true) ∙ ap (λ (u : Bool). whole_of u a) (sym c.if-up.true)
 
-pub returns-then-up : goal.returns-then-up
+pub returns-else-n-a : goal.returns-else-n-a
 unfolding of_bits
-returns-then-up c =
+returns-else-n-a c =
     let a = c.args.a in
     high_enough a c.requires.unsigned c.requires.small (no c.if-n-a.false) ∙ ap (λ (u : Bool). whole_of u a) (sym c.if-up.true)
 
@@ -24,8 +24,8 @@ returns-then-a-n c =
     let a = c.args.a in
     lowered a c.requires.unsigned c.requires.small (yes c.if-a-n.true) ∙ ap (λ (u : Bool). whole_of u a) (sym c.if-up.false)
 
-pub returns : goal.returns
+pub returns-else-a-n : goal.returns-else-a-n
 unfolding of_bits
-returns c =
+returns-else-a-n c =
     let a = c.args.a in
     low_enough a c.requires.unsigned c.requires.small (no c.if-a-n.false) ∙ ap (λ (u : Bool). whole_of u a) (sym c.if-up.false)

@@ -4,7 +4,7 @@ use lib.Ieee.{of_bits, neg}
 use Rattle.numbers.specs.Words.{signed}
 use Rattle.numbers.specs.Whole.{span_of}
 use Rattle.numbers.proofs.Bits.{yes, positive}
-use Rattle.numbers.proofs.Spans.{ended, minus, negated}
+use Rattle.numbers.proofs.Spans.{minus, negated}
 use Rattle.numbers.proofs.whole.span.Goals as goal
 
 pub between-requires : goal.between-requires
@@ -21,6 +21,3 @@ between-requires-then-x-4 c = let m = minus c.args.x (yes c.if-x-3.true) (yes c.
 
 pub returns-then-x-4 : goal.returns-then-x-4
 returns-then-x-4 c = c.between-then-x-4.ensures ∙ ap span_of (sym (negated c.args.x))
-
-pub returns : goal.returns
-returns c = ended c.args.x c.floor_i32.type_inv c.ceil_i32.type_inv c.floor_i32.ensures c.ceil_i32.ensures

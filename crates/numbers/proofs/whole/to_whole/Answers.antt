@@ -21,8 +21,8 @@ returns-then-a c =
     ∙ ap (signed (sign_of x)) (c.near.ensures ∙ ap (whole_of u) c.abs-a.ensures)
     ∙ with_sign u x
 
-pub returns : goal.returns
+pub returns-else-a : goal.returns-else-a
 unfolding of_bits
-returns c =
+returns-else-a c =
     let x = c.args.x in
     kept c.args.away x (subst T (sym c.well_formed.1.0.1) tt) (subst (λ (v : Float). T (not (lt v limit))) c.abs-a.ensures (no c.if-a.false))

@@ -18,7 +18,3 @@ unfolding of_bits part_of
 returns-then-x-2 c =
     let a = as_unsigned c.args.x c.near-f.result (yes c.if-x.true) (yes c.if-x-2.true) c.near-f.ensures in
     rw (a.count, a.value)
-
-pub returns : goal.returns
-unfolding part_of
-returns c = rw (c.from_u32.ensures, c.truncated-k.ensures)

@@ -8,6 +8,6 @@ pub returns-then-x : goal.returns-then-x
 unfolding of_bits
 returns-then-x c = size_above c.args.x (yes c.if-x.true)
 
-pub returns : goal.returns
+pub returns-else-x : goal.returns-else-x
 unfolding of_bits
-returns c = size_below c.args.x (subst T (sym c.well_formed.0.1) tt) (no c.if-x.false)
+returns-else-x c = size_below c.args.x (subst T (sym c.well_formed.0.1) tt) (no c.if-x.false)

@@ -1,65 +1,69 @@
 -- `pattern::commands::add` meets its contract. Assumes nothing.
-use Prim.Native.Nat.{◌+◌, ◌≤◌}
-use mathlib.Core.Path.{◌≡◌, sym, ap, ◌∙◌}
-use mathlib.Core.Bool.{◌&&◌, true}
+use mathlib.Core.Path.{sym, ap, ◌∙◌}
+use mathlib.Core.Bool.{◌&&◌}
+use mathlib.Core.List.{List, ◌++◌}
+use lib.Seq.{sets}
 use native.Mathlib.Omega.{arith}
-use borrow.Author.Tests.{leb-true}
-use mir.Val.{Fits}
-use mir.Syntax.{w64}
 use lib.Dec.{leb}
-use lib.ListN.{length}
-use Rattle.pattern.specs.Commands.{number_of}
+use Rattle.std.specs.Prelude.{ℕ, ◌+◌, ◌*◌, length}
+use Rattle.pattern.specs.Commands.{words_of}
 use Rattle.pattern.specs.Drawn.{verdict_of}
-use Rattle.pattern.specs.Encoded.{both_true}
-use Rattle.pattern.proofs.Laws.{accepts, no_verdict, added}
+use Rattle.pattern.specs.Encoded.{words_append}
+use Rattle.pattern.proofs.Laws.{words_length, whole_length, sets_behind, granted, passed_on, no_verdict, added}
 use Rattle.pattern.proofs.commands.add.Goals as goal
 
-pub returns-then-number-ne0 : goal.returns-then-number-ne0
-returns-then-number-ne0 c =
-    let enough : let a = c.args in a.n ≤ length a.words = omega arith in
+pub returns-in_err-verdict : goal.returns-in_err-verdict
+returns-in_err-verdict c =
     let a = c.args in
-    no_verdict a.pen a.then a.tags.now a.points.now a.tag a.words a.n enough a.sound c.verdict-answer.result
-    (c.verdict-answer.ensures ∙ ap (verdict_of a.sound) c.have_room-room.ensures) (λ e. c.if-number-ne0.true (c.number.ensures ∙ e))
+    let n = whole_length a.start.now a.spots.now in
+    rw (passed_on _ _ c.from_residual.ensures.1)
+    (no_verdict a.pen a.then a.tags.now a.points.now a.tag (words_of (a.start.now ++ a.spots.now)) a.sound _
+    (sym c.in_err-verdict.was ∙ c.verdict.ensures ∙ ap (verdict_of a.sound) (c.have_room-room.ensures ∙ ap (λ (m : ℕ). leb (a.pen.tags + 1) (length a.tags.now) && leb (a.pen.points + m) (length a.points.now)) n)))
 
 pub bounds-tags-at : goal.bounds-tags-at
 bounds-tags-at c =
-    let accepted : number_of c.verdict-answer.result ≡ 0 = sym c.number.ensures ∙ c.if-number-ne0.false in
-    let by_verdict : let a = c.args in c.verdict-answer.result ≡ verdict_of a.sound (leb (a.pen.tags + 1) (length a.tags.now) && leb (a.pen.points + a.n) (length a.points.now)) = c.verdict-answer.ensures ∙ ap (verdict_of _) c.have_room-room.ensures in
-    let room : let a = c.args in (leb (a.pen.tags + 1) (length a.tags.now) ≡ true) × (leb (a.pen.points + a.n) (length a.points.now) ≡ true) = both_true _ _ (accepts _ _ c.verdict-answer.result by_verdict accepted).1 in
-    let tag_fits : let a = c.args in a.pen.tags + 1 ≤ length a.tags.now = leb-true _ _ room.0 in
-    omega (arith, tag_fits)
-
-pub put_words-requires : goal.put_words-requires
-put_words-requires c =
-    let accepted : number_of c.verdict-answer.result ≡ 0 = sym c.number.ensures ∙ c.if-number-ne0.false in
-    let by_verdict : let a = c.args in c.verdict-answer.result ≡ verdict_of a.sound (leb (a.pen.tags + 1) (length a.tags.now) && leb (a.pen.points + a.n) (length a.points.now)) = c.verdict-answer.ensures ∙ ap (verdict_of _) c.have_room-room.ensures in
-    let room : let a = c.args in (leb (a.pen.tags + 1) (length a.tags.now) ≡ true) × (leb (a.pen.points + a.n) (length a.points.now) ≡ true) = both_true _ _ (accepts _ _ c.verdict-answer.result by_verdict accepted).1 in
-    let point_fits : let a = c.args in a.pen.points + a.n ≤ length a.points.now = leb-true _ _ room.1 in
-    (omega arith, omega arith, point_fits)
-
-pub returns : goal.returns
-returns c =
-    let enough : let a = c.args in a.n ≤ length a.words = omega arith in
-    let accepted : number_of c.verdict-answer.result ≡ 0 = sym c.number.ensures ∙ c.if-number-ne0.false in
-    let by_verdict : let a = c.args in c.verdict-answer.result ≡ verdict_of a.sound (leb (a.pen.tags + 1) (length a.tags.now) && leb (a.pen.points + a.n) (length a.points.now)) = c.verdict-answer.ensures ∙ ap (verdict_of _) c.have_room-room.ensures in
     let a = c.args in
-    added a.pen a.then a.tags.now a.points.now a.tag a.words a.n enough a.sound c.verdict-answer.result _ by_verdict accepted
-    c.put_words.ensures
+    let k = granted a.sound _ _ a.pen.tags (length a.tags.now) a.pen.points (length a.start.now * 2 + length a.spots.now * 2) (length a.points.now) c.have_room-room.ensures c.verdict.ensures c.in_ok-verdict.was in
+    omega (arith, k)
+
+pub put_spots-requires : goal.put_spots-requires
+put_spots-requires c =
+    let a = c.args in
+    let k = granted a.sound _ _ a.pen.tags (length a.tags.now) a.pen.points (length a.start.now * 2 + length a.spots.now * 2) (length a.points.now) c.have_room-room.ensures c.verdict.ensures c.in_ok-verdict.was in
+    let e = words_length a.start.now in omega (arith, e, k)
+
+pub overflow_add-from : goal.overflow_add-from
+overflow_add-from c =
+    let a = c.args in
+    let k = granted a.sound _ _ a.pen.tags (length a.tags.now) a.pen.points (length a.start.now * 2 + length a.spots.now * 2) (length a.points.now) c.have_room-room.ensures c.verdict.ensures c.in_ok-verdict.was in
+    omega (arith, k)
+
+pub put_spots-requires-2 : goal.put_spots-requires-2
+put_spots-requires-2 c =
+    let a = c.args in
+    let k = granted a.sound _ _ a.pen.tags (length a.tags.now) a.pen.points (length a.start.now * 2 + length a.spots.now * 2) (length a.points.now) c.have_room-room.ensures c.verdict.ensures c.in_ok-verdict.was in
+    let e = words_length a.spots.now in omega (arith, e, k, c.put_spots.auto.points)
 
 pub overflow_add-result : goal.overflow_add-result
 overflow_add-result c =
-    let accepted : number_of c.verdict-answer.result ≡ 0 = sym c.number.ensures ∙ c.if-number-ne0.false in
-    let by_verdict : let a = c.args in c.verdict-answer.result ≡ verdict_of a.sound (leb (a.pen.tags + 1) (length a.tags.now) && leb (a.pen.points + a.n) (length a.points.now)) = c.verdict-answer.ensures ∙ ap (verdict_of _) c.have_room-room.ensures in
-    let room : let a = c.args in (leb (a.pen.tags + 1) (length a.tags.now) ≡ true) × (leb (a.pen.points + a.n) (length a.points.now) ≡ true) = both_true _ _ (accepts _ _ c.verdict-answer.result by_verdict accepted).1 in
-    let tag_fits : let a = c.args in a.pen.tags + 1 ≤ length a.tags.now = leb-true _ _ room.0 in
-    let tag_count : let a = c.args in Fits w64 (a.pen.tags + 1) = omega (arith, tag_fits) in
-    tag_count
+    let a = c.args in
+    let k = granted a.sound _ _ a.pen.tags (length a.tags.now) a.pen.points (length a.start.now * 2 + length a.spots.now * 2) (length a.points.now) c.have_room-room.ensures c.verdict.ensures c.in_ok-verdict.was in
+    omega (arith, k)
 
 pub overflow_add-result-2 : goal.overflow_add-result-2
 overflow_add-result-2 c =
-    let accepted : number_of c.verdict-answer.result ≡ 0 = sym c.number.ensures ∙ c.if-number-ne0.false in
-    let by_verdict : let a = c.args in c.verdict-answer.result ≡ verdict_of a.sound (leb (a.pen.tags + 1) (length a.tags.now) && leb (a.pen.points + a.n) (length a.points.now)) = c.verdict-answer.ensures ∙ ap (verdict_of _) c.have_room-room.ensures in
-    let room : let a = c.args in (leb (a.pen.tags + 1) (length a.tags.now) ≡ true) × (leb (a.pen.points + a.n) (length a.points.now) ≡ true) = both_true _ _ (accepts _ _ c.verdict-answer.result by_verdict accepted).1 in
-    let point_fits : let a = c.args in a.pen.points + a.n ≤ length a.points.now = leb-true _ _ room.1 in
-    let point_count_lem : let a = c.args in Fits w64 (a.pen.points + a.n) = omega (arith, point_fits) in
-    point_count_lem
+    let a = c.args in
+    let k = granted a.sound _ _ a.pen.tags (length a.tags.now) a.pen.points (length a.start.now * 2 + length a.spots.now * 2) (length a.points.now) c.have_room-room.ensures c.verdict.ensures c.in_ok-verdict.was in
+    omega (arith, k)
+
+pub returns : goal.returns
+returns c =
+    let a = c.args in
+    let n = whole_length a.start.now a.spots.now in
+    let e = words_length a.start.now in
+    added a.pen a.then a.tags.now a.points.now a.tag (words_of (a.start.now ++ a.spots.now)) a.sound _ _ n
+    (sym c.in_ok-verdict.was ∙ c.verdict.ensures ∙ ap (verdict_of a.sound) (c.have_room-room.ensures ∙ ap (λ (m : ℕ). leb (a.pen.tags + 1) (length a.tags.now) && leb (a.pen.points + m) (length a.points.now)) n))
+    (c.put_spots-2.ensures
+    ∙ ap (λ (ps : List ℕ). sets ps (a.pen.points + length a.start.now * 2) (words_of a.spots.now)) c.put_spots.ensures
+    ∙ sets_behind (words_of a.start.now) (words_of a.spots.now) a.points.now a.pen.points (a.pen.points + length a.start.now * 2) (omega (arith, e))
+    ∙ ap (sets a.points.now a.pen.points) (sym (words_append a.start.now a.spots.now)))

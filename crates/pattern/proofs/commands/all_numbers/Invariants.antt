@@ -1,12 +1,8 @@
--- `pattern::commands::all_numbers` meets its contract: the words before the place reached are numbers, so that the rest decides. Assumes nothing.
-use Prim.Native.Nat.{◌≤◌, ◌-◌}
+-- `pattern::commands::all_numbers` meets its contract: the points that were gone over are numbers, so that the rest decides. Assumes nothing.
 use mathlib.Core.Path.{◌≡◌}
-use lib.ListN.{take, drop}
-use Rattle.pattern.specs.Commands.{numbers}
+use lib.ListN.{drop}
+use Rattle.pattern.specs.Commands.{words_of, numbers}
 use Rattle.pattern.proofs.commands.all_numbers.Given as goal
 
-abbrev pub invariant-loop-k : goal.invariant-loop-k
-invariant-loop-k l = (l.k ≤ l.n) × (numbers (take l.n l.words) ≡ numbers (drop l.k (take l.n l.words)))
-
-abbrev pub decreases-loop-k : goal.decreases-loop-k
-decreases-loop-k l = l.n - l.k
+abbrev pub invariant-loop-spot : goal.invariant-loop-spot
+invariant-loop-spot l = numbers (words_of l.spots) ≡ numbers (words_of (drop l.spot-index l.spots))

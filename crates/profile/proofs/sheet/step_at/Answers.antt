@@ -1,15 +1,14 @@
--- `profile::sheet::step_at` meets its contract. Assumes nothing.
-use mathlib.Core.Path.{sym, ap, ◌∙◌}
-use Rattle.flatten.specs.Tag.{head_read}
-use Rattle.profile.proofs.Passes.{reads_again, reads_still, segment_reached}
+-- `profile::sheet::step_at` meets its contract: the head was read before. Assumes nothing.
+use Rattle.std.proofs.Common.{sym, ◌∙◌}
+use Rattle.profile.proofs.Passes.{reads_again, reads_now, segment_reached}
 use Rattle.profile.proofs.sheet.step_at.Goals as goal
 
-pub take_step-requires : goal.take_step-requires
-take_step-requires c =
-    record { small = c.requires.small; in_reach = segment_reached _ _ _ c.requires.ix_value (reads_again _ _ _ c.requires.ix_value (sym c.read_head.ensures ∙ ap head_read c.in-Found.is)) }
+pub unwrap-head-requires : goal.unwrap-head-requires
+unwrap-head-requires c = reads_now _ _ _ c.requires.was_read c.read_head.ensures
 
-pub returns-in-Found : goal.returns-in-Found
-returns-in-Found c = rw (← (reads_again _ _ _ c.requires.ix_value (sym c.read_head.ensures ∙ ap head_read c.in-Found.is))) c.take_step.ensures
+pub take_step-requires-clause-in_reach : goal.take_step-requires-clause-in_reach
+take_step-requires-clause-in_reach c =
+    segment_reached _ _ _ c.requires.was_read (reads_again _ _ _ c.requires.was_read (sym c.read_head.ensures ∙ c.unwrap-head.ensures))
 
-pub returns-in-Refused : goal.returns-in-Refused
-returns-in-Refused c = absurd (reads_still _ _ _ c.requires.ix_value (sym c.read_head.ensures ∙ ap head_read c.in-Refused.is))
+pub returns : goal.returns
+returns c = rw (← (reads_again _ _ _ c.requires.was_read (sym c.read_head.ensures ∙ c.unwrap-head.ensures))) c.take_step.ensures

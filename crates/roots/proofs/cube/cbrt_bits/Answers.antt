@@ -1,14 +1,8 @@
 -- `roots::cube::cbrt_bits` meets its contract, by the laws of `Cubes`. Assumes nothing.
 use Rattle.std.proofs.Common.{ℕ, ◌+◌, ◌*◌, ◌^◌, subst, mul_assoc, arith}
 use Rattle.roots.specs.Parts.{root_bits, mag_bits}
-use Rattle.roots.proofs.Cubes.{times_le, third_least, third_most, near_most, cbrt_is}
+use Rattle.roots.proofs.Cubes.{third_least, third_most, cbrt_is}
 use Rattle.roots.proofs.cube.cbrt_bits.Goals as goal
-
-pub overflow_mul-t : goal.overflow_mul-t
-overflow_mul-t c = omega (arith, times_le _ _ _ _ _ c.unpack-p.ensures c.third-d.ensures c.power.ensures)
-
-pub overflow_cast-t : goal.overflow_cast-t
-overflow_cast-t c = omega (arith, times_le _ _ _ _ _ c.unpack-p.ensures c.third-d.ensures c.power.ensures)
 
 pub settled-requires : goal.settled-requires
 settled-requires c =
@@ -16,13 +10,6 @@ settled-requires c =
     let d = c.third-d.ensures in
     let w = c.power.ensures in
     (c.cbrt_guess.ensures.0, c.cbrt_guess.ensures.1, omega (arith, third_least _ _ _ _ _ u d w), third_most _ _ _ _ _ u d w)
-
-pub overflow_add-result : goal.overflow_add-result
-overflow_add-result c =
-    let u = c.unpack-p.ensures in
-    let d = c.third-d.ensures in
-    let w = c.power.ensures in
-    omega (arith, near_most _ _ (third_least _ _ _ _ _ u d w) (third_most _ _ _ _ _ u d w) c.settled.ensures)
 
 pub returns : goal.returns
 returns c =

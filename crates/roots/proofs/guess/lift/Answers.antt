@@ -8,12 +8,3 @@ small r h = mul-le-mul {n₂ = 2} {m₂ = 1203} (omega arith) (omega arith)
 
 pub float_from_bits-result : goal.float_from_bits-result
 float_from_bits-result c = no_nan_pattern _ (omega (arith, small c.args.r c.requires))
-
-pub overflow_mul-result-2 : goal.overflow_mul-result-2
-overflow_mul-result-2 c = omega (arith, small c.args.r c.requires)
-
-pub overflow_mul-result-3 : goal.overflow_mul-result-3
-overflow_mul-result-3 c = omega (arith, small c.args.r c.requires)
-
-pub overflow_add-result-2 : goal.overflow_add-result-2
-overflow_add-result-2 c = omega (arith, small c.args.r c.requires)

@@ -1,7 +1,7 @@
 -- `roots::sum::hypot_digits` meets its contract, by the laws of `Sums`. Assumes nothing.
-use Rattle.std.proofs.Common.{◌≡◌, ℕ, ◌-◌, ◌/◌, ◌^◌, ◌<◌, ◌≤◌, sym, subst, lt_trans, arith, lit<, lit≤}
+use Rattle.std.proofs.Common.{◌≡◌, ℕ, ◌-◌, ◌/◌, ◌^◌, ◌<◌, ◌≤◌, sym, subst, arith}
 use Rattle.roots.specs.Parts.{root_bits}
-use Rattle.roots.proofs.Sums.{leading, order, magnitudes, far, less, k_pos, m_le, n_le, hi_le, lo_lt, room, r'_lt, near}
+use Rattle.roots.proofs.Sums.{leading, order, magnitudes, far, less, k_pos, lo_lt, room, r'_lt, near}
 use Rattle.roots.proofs.sum.hypot_digits.Goals as goal
 
 small_place : (a b u : ℕ) → b ≤ a → a < 0x7f80_0000 → u ≡ b / 2 ^ 23 - 1 → u ≤ 1000
@@ -15,32 +15,14 @@ returns-then-d-gt12 c =
     let p : 0 < c.fields-p.result.t = omega arith in
     magnitudes _ _ _ _ _ _ _ F G (far _ _ _ F.most (leading _ _ p F.full) (less _ _ _ _ G.most D c.if-d-gt12.true) _ (F.bits p) c.requires.1)
 
-pub overflow_mul-y : goal.overflow_mul-y
-overflow_mul-y c = omega (arith, n_le _ _ _ _ c.fields-p.ensures.most c.fields-q.ensures.most c.if-d-gt12.false c.fours-k.ensures)
-
-pub overflow_mul-m : goal.overflow_mul-m
-overflow_mul-m c = omega (arith, m_le _ _ _ _ c.fields-p.ensures.most c.fields-q.ensures.most c.if-d-gt12.false c.fours-k.ensures)
-
 pub nonzero_div-y : goal.nonzero_div-y
 nonzero_div-y c = k_pos _ _ _ _ c.fields-p.ensures.most c.fields-q.ensures.most c.if-d-gt12.false c.fours-k.ensures
-
-pub overflow_add-m : goal.overflow_add-m
-overflow_add-m c = omega (arith, hi_le _ _ _ _ c.fields-p.ensures.most c.fields-q.ensures.most c.if-d-gt12.false c.fours-k.ensures)
-
-pub overflow_mul-m-2 : goal.overflow_mul-m-2
-overflow_mul-m-2 c = omega (arith, hi_le _ _ _ _ c.fields-p.ensures.most c.fields-q.ensures.most c.if-d-gt12.false c.fours-k.ensures)
-
-pub feed2-s-requires : goal.feed2-s-requires
-feed2-s-requires c = (lit≤ tt, lit≤ tt, omega (arith, hi_le _ _ _ _ c.fields-p.ensures.most c.fields-q.ensures.most c.if-d-gt12.false c.fours-k.ensures))
 
 pub nonzero_rem-w : goal.nonzero_rem-w
 nonzero_rem-w c = k_pos _ _ _ _ c.fields-p.ensures.most c.fields-q.ensures.most c.if-d-gt12.false c.fours-k.ensures
 
 pub nonzero_div-w : goal.nonzero_div-w
 nonzero_div-w c = k_pos _ _ _ _ c.fields-p.ensures.most c.fields-q.ensures.most c.if-d-gt12.false c.fours-k.ensures
-
-pub overflow_mul-w : goal.overflow_mul-w
-overflow_mul-w c = record { fits = lt_trans (lo_lt _ _ _ _ c.fields-p.ensures.most c.fields-q.ensures.most c.if-d-gt12.false c.fours-k.ensures) (lit< tt) }
 
 pub feed2-requires : goal.feed2-requires
 feed2-requires c = (c.feed2-s.ensures.rest, room _ _ _ _ c.fields-p.ensures.most c.fields-q.ensures.most c.if-d-gt12.false c.fours-k.ensures _ _ c.feed2-s.ensures, lo_lt _ _ _ _ c.fields-p.ensures.most c.fields-q.ensures.most c.if-d-gt12.false c.fours-k.ensures)

@@ -1,24 +1,11 @@
--- `scene::reading::all_finite` meets its contract: the numbers before the place reached are finite, so that the rest decides. Assumes nothing.
-use Rattle.std.proofs.Common.{not, sym, refl, ap, ◌∙◌, add-one, arith, drop_of_length-le}
+-- `scene::reading::all_finite` meets its contract. Assumes nothing.
+use Rattle.std.proofs.Common.{rules, tests}
+use Rattle.std.proofs.lemmas.Iterator.{YieldsList-from_slice}
+use Rattle.std.proofs.lemmas.Iterator.Search.{all_from_yields_List}
+use Rattle.std.specs.Float.Ieee.Scale.{finite}
 use Rattle.scene.specs.Reading.{all_finite}
-use Rattle.scene.proofs.Finite.{one_more_lem, one_bad}
 use Rattle.scene.proofs.reading.all_finite.Goals as goal
-
-pub loop-k-init : goal.loop-k-init
-loop-k-init c = (omega arith, refl)
-
-pub returns-then-not-is_finite : goal.returns-then-not-is_finite
-returns-then-not-is_finite c =
-    let l = c.loop-k in
-    sym (l.invariant.1 ∙ one_bad _ l.k _ (omega arith) (ap not (sym c.is_finite.ensures ∙ c.if-not-is_finite.true)))
-
-pub loop-k-preserved : goal.loop-k-preserved
-loop-k-preserved c =
-    let l = c.loop-k in
-    (omega arith, rw (add-one l.k) (l.invariant.1 ∙ one_more_lem _ l.k _ (omega arith) (ap not (sym c.is_finite.ensures ∙ c.if-not-is_finite.false))))
 
 pub returns : goal.returns
 unfolding all_finite
-returns c =
-    let l = c.loop-k in
-    sym (l.invariant.1 ∙ ap all_finite (drop_of_length-le _ {i = l.k} (omega arith)))
+returns c = all_from_yields_List finite _ _ _ c.all.ensures.ran (YieldsList-from_slice c.args.z cc) (λ x b q k. search (rules, tests))

@@ -1,15 +1,13 @@
 -- `scene::reading::line_width` meets its contract. Assumes nothing.
-use Rattle.std.proofs.Common.{◌+◌, ◌^◌, ◌<◌, arith, le-ltb, lt-ltb}
+use Rattle.std.proofs.Common.{arith}
+use Rattle.std.proofs.lemmas.Grind.{common_steps}
 use Rattle.scene.specs.Reading.{width_of}
 use Rattle.scene.proofs.reading.line_width.Goals as goal
 
-pub returns-then-at-le4294967295 : goal.returns-then-at-le4294967295
+pub returns-then-at-gt4294967295 : goal.returns-then-at-gt4294967295
 unfolding width_of
-returns-then-at-le4294967295 c =
-    let a = c.args in
-    let small : a.style_base + a.style_ix + 1 < 2 ^ 32 = omega arith in
-    rw (lt-ltb _ _ small) c.word_at.ensures
+returns-then-at-gt4294967295 c = grind (arith, common_steps)
 
-pub returns-else-at-le4294967295 : goal.returns-else-at-le4294967295
+pub returns : goal.returns
 unfolding width_of
-returns-else-at-le4294967295 c = rw (le-ltb _ _ c.if-at-le4294967295.false)
+returns c = grind (arith, common_steps)

@@ -1,21 +1,18 @@
 -- `scene::reading::read_path_segment` meets its contract. Assumes nothing.
 use Rattle.std.proofs.Common.{sym, ◌∙◌, arith}
-use lib.Ieee.{of_bits, round}
 use Rattle.scene.specs.Reading.{segment_of}
 use Rattle.scene.proofs.Points.{inside}
 use Rattle.scene.proofs.reading.read_path_segment.Goals as goal
 
-pub read_cubic-points-requires : goal.read_cubic-points-requires
-read_cubic-points-requires c =
-    let a = c.args in
-    (omega arith, inside _ _ _ a.scene.now _ (sym c.in_reach.ensures ∙ c.if-in_reach.true))
+pub read_cubic-requires : goal.read_cubic-requires
+read_cubic-requires c =
+    (omega arith, inside _ _ _ c.args.scene.now _ (sym c.in_reach.ensures ∙ c.if-not-in_reach.false))
 
-pub returns-then-in_reach : goal.returns-then-in_reach
+pub returns-then-not-in_reach : goal.returns-then-not-in_reach
 unfolding segment_of
-returns-then-in_reach c =
-    rw (c.read_cubic-points.ensures, c.is_marker.ensures, ← c.is_wide-wide.ensures, sym c.in_reach.ensures ∙ c.if-in_reach.true)
+returns-then-not-in_reach c = rw (← c.is_wide-wide.ensures, sym c.in_reach.ensures ∙ c.if-not-in_reach.true)
 
 pub returns : goal.returns
-unfolding segment_of of_bits round
+unfolding segment_of
 returns c =
-    rw (c.new-zero.ensures, ← c.is_wide-wide.ensures, sym c.in_reach.ensures ∙ c.if-in_reach.false)
+    rw (c.read_cubic.ensures, c.is_marker.ensures, ← c.is_wide-wide.ensures, sym c.in_reach.ensures ∙ c.if-not-in_reach.false)

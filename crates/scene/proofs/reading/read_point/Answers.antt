@@ -14,23 +14,11 @@ returns-else-wide c =
     let once : j * 1 ≡ j = omega arith in
     rw (c.if-wide.false, once) c.read_i16_point.ensures
 
-pub overflow_add-at : goal.overflow_add-at
-unfolding point_words
-overflow_add-at c =
-    let wide_room : c.args.at + (c.args.j + 1) * 2 ≤ length c.args.words.now = rw c.if-wide.true at c.requires.1 in
-    omega (arith, wide_room)
-
 pub read_f32_point-requires : goal.read_f32_point-requires
 unfolding point_words
 read_f32_point-requires c =
     let wide_room : c.args.at + (c.args.j + 1) * 2 ≤ length c.args.words.now = rw c.if-wide.true at c.requires.1 in
     omega (arith, wide_room)
-
-pub overflow_add-at-else-wide : goal.overflow_add-at-else-wide
-unfolding point_words
-overflow_add-at-else-wide c =
-    let narrow_room : c.args.at + (c.args.j + 1) * 1 ≤ length c.args.words.now = rw c.if-wide.false at c.requires.1 in
-    omega (arith, narrow_room)
 
 pub read_i16_point-requires : goal.read_i16_point-requires
 unfolding point_words

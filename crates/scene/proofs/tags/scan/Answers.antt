@@ -1,7 +1,7 @@
 -- `scene::tags::scan` meets its contract. After i turns the first i prefixes are filled, the words behind are as lent, and the sums are those of the next prefix.
 -- Assumes nothing.
 use Rattle.std.proofs.Common.{◌≡◌, arith}
-use Rattle.scene.proofs.Laws.{begin, turn, as_long, past, done}
+use Rattle.scene.proofs.Laws.{begin, turn, past, done}
 use Rattle.scene.proofs.tags.scan.Goals as goal
 
 pub returns-then-base-scene : goal.returns-then-base-scene
@@ -12,9 +12,6 @@ loop-i-init c =
     let a = c.args in
     (omega arith, begin a.scene.now a.tag_base a.prefixes.now c.sums_below-sums.ensures)
 
-pub put_prefix-requires : goal.put_prefix-requires
-put_prefix-requires c = omega (arith, as_long c.loop-i.invariant.1)
-
 pub loop-i-preserved : goal.loop-i-preserved
 loop-i-preserved c = (
   omega arith,
@@ -23,8 +20,5 @@ loop-i-preserved c = (
 
 pub returns : goal.returns
 returns c =
-    let all : c.loop-i.i ≡ c.smaller-n.result = omega arith in
-    done (rw all at c.loop-i.invariant.1) c.if-base-scene.false c.smaller-n.ensures
-
-pub shape_of-prefixes : goal.shape_of-prefixes
-shape_of-prefixes c = as_long c.loop-i.invariant.1
+    let all : c.loop-i.i ≡ c.min-n.result = omega arith in
+    done (rw all at c.loop-i.invariant.1) c.if-base-scene.false c.min-n.ensures

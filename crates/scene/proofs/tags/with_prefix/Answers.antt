@@ -1,18 +1,17 @@
 -- `scene::tags::with_prefix` meets its contract. Assumes nothing.
-use Rattle.std.proofs.Common.{sym, ◌∙◌, eq-eqb, ne_eqb}
+use Rattle.std.proofs.Common.{arith}
+use Rattle.std.proofs.lemmas.Grind.{common_steps}
 use Rattle.scene.specs.Tags.{with_prefix}
 use Rattle.scene.proofs.tags.with_prefix.Goals as goal
 
 pub returns-then-tag_byte-eq0 : goal.returns-then-tag_byte-eq0
 unfolding with_prefix
-returns-then-tag_byte-eq0 c = rw (eq-eqb _ _ c.if-tag_byte-eq0.true, c.tag_data.ensures)
+returns-then-tag_byte-eq0 c = grind (arith, common_steps)
 
-pub returns-in-Lent : goal.returns-in-Lent
+pub returns-in_err-before : goal.returns-in_err-before
 unfolding with_prefix
-returns-in-Lent c =
-    rw (ne_eqb _ _ c.if-tag_byte-eq0.false, sym c.prefix_at.ensures ∙ c.in-Lent.is, c.tag_data-in-Lent.ensures, c.combine.ensures)
+returns-in_err-before c = grind (arith, common_steps)
 
-pub returns-in-Missing : goal.returns-in-Missing
+pub returns : goal.returns
 unfolding with_prefix
-returns-in-Missing c =
-    rw (ne_eqb _ _ c.if-tag_byte-eq0.false, sym c.prefix_at.ensures ∙ c.in-Missing.is)
+returns c = grind (arith, common_steps)

@@ -1,12 +1,9 @@
 -- `scene::words::word_at` meets its contract. Assumes nothing.
-use Rattle.std.proofs.Common.{le-ltb, lt-ltb}
+use Rattle.std.proofs.Common.{arith}
+use Rattle.std.proofs.lemmas.Grind.{common_steps}
 use Rattle.scene.specs.Words.{word_at}
 use Rattle.scene.proofs.words.word_at.Goals as goal
 
-pub returns-then-i-words : goal.returns-then-i-words
+pub returns : goal.returns
 unfolding word_at
-returns-then-i-words c = simp (lt-ltb _ _ c.if-i-words.true)
-
-pub returns-else-i-words : goal.returns-else-i-words
-unfolding word_at
-returns-else-i-words c = simp (le-ltb _ _ c.if-i-words.false)
+returns c = grind (arith, common_steps)

@@ -1,17 +1,19 @@
 -- `sheets::tags::turned_tag` meets its contract. Assumes nothing.
-use mathlib.Core.Path.{sym, ◌∙◌}
-use mathlib.Core.Bool.{true, false}
-use Rattle.sheets.proofs.Laws.{movable_is, turned_is}
+use native.Mathlib.Omega.{arith}
+use Rattle.sheets.proofs.Laws.{turned_none, turned_new, turned_old, room_above, room_below}
 use Rattle.sheets.proofs.tags.turned_tag.Goals as goal
 
-pub new_tag-requires : goal.new_tag-requires
-new_tag-requires c = sym (movable_is c.args.to_f32 true c.args.tag c.if-to_f32.true) ∙ c.requires
+pub returns-then-count_of-eq0 : goal.returns-then-count_of-eq0
+returns-then-count_of-eq0 c = turned_none c.args.tag _ c.count_of.ensures c.if-count_of-eq0.true c.args.to_f32
+
+pub overflow_add-result : goal.overflow_add-result
+overflow_add-result c = let h = room_above c.args.tag _ c.count_of.ensures c.if-count_of-eq0.false c.args.to_f32 c.requires c.if-to_f32.true (omega arith) in omega arith
 
 pub returns-then-to_f32 : goal.returns-then-to_f32
-returns-then-to_f32 c = c.new_tag.ensures ∙ sym (turned_is c.args.to_f32 true c.args.tag c.if-to_f32.true)
+returns-then-to_f32 c = turned_new c.args.tag _ c.count_of.ensures c.if-count_of-eq0.false c.args.to_f32 c.requires c.if-to_f32.true
 
-pub old_tag-requires : goal.old_tag-requires
-old_tag-requires c = sym (movable_is c.args.to_f32 false c.args.tag c.if-to_f32.false) ∙ c.requires
+pub overflow_sub-result : goal.overflow_sub-result
+overflow_sub-result c = room_below c.args.tag _ c.count_of.ensures c.if-count_of-eq0.false c.args.to_f32 c.requires c.if-to_f32.false
 
-pub returns : goal.returns
-returns c = c.old_tag.ensures ∙ sym (turned_is c.args.to_f32 false c.args.tag c.if-to_f32.false)
+pub returns-else-to_f32 : goal.returns-else-to_f32
+returns-else-to_f32 c = turned_old c.args.tag _ c.count_of.ensures c.if-count_of-eq0.false c.args.to_f32 c.requires c.if-to_f32.false

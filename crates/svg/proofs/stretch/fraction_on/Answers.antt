@@ -2,7 +2,7 @@
 use Prim.Native.Nat.{◌+◌}
 use native.Mathlib.Omega.{arith}
 use Rattle.svg.proofs.Reading.{below_power}
-use Rattle.svg.proofs.Stretches.{onward_none, fraction_ran}
+use Rattle.svg.proofs.Stretches.{fraction_ran}
 use Rattle.svg.proofs.stretch.fraction_on.Goals as goal
 
 pub digits-taken-requires : goal.digits-taken-requires
@@ -11,9 +11,6 @@ digits-taken-requires c =
     let m = c.args.s.num in
     let H = pre.0.held in
     (pre.1, H.behind, below_power (m.before + m.behind) (m.behind + 9) m.n (let b = H.before in omega arith) H.small)
-
-pub returns-then-at-i : goal.returns-then-at-i
-returns-then-at-i c = let pre = c.requires in onward_none pre.1 pre.0
 
 pub returns : goal.returns
 returns c =

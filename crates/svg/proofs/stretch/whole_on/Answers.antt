@@ -3,7 +3,7 @@ use mathlib.Core.Path.{refl, sym, ◌∙◌}
 use Prim.Native.Nat.{◌+◌}
 use native.Mathlib.Omega.{arith}
 use Rattle.svg.proofs.Reading.{below_power}
-use Rattle.svg.proofs.Stretches.{point_told, onward_none, onward_then, whole_ran, whole_point}
+use Rattle.svg.proofs.Stretches.{point_told, onward_then, whole_ran, whole_point}
 use Rattle.svg.proofs.stretch.whole_on.Goals as goal
 
 pub digits-taken-requires : goal.digits-taken-requires
@@ -25,9 +25,6 @@ returns-then-has_point c =
     let pre = c.requires in
     let point = point_told c.args.text.now c.digits-taken.result.at (sym c.has_point.ensures ∙ c.if-has_point.true) in
     onward_then (whole_point pre.0 pre.2 c.digits-taken.ensures point.0 point.1) c.fraction_on.ensures
-
-pub returns-then-at-i : goal.returns-then-at-i
-returns-then-at-i c = let pre = c.requires in onward_none pre.1 pre.0
 
 pub returns : goal.returns
 returns c =

@@ -1,0 +1,28 @@
+-- `hpgl::lines::put_all` meets its contract. Assumes nothing.
+use Rattle.std.proofs.Common.{◌∙◌}
+use Rattle.hpgl.specs.Form.{range_of}
+use Rattle.hpgl.specs.ExportLaws.{none_left, record_on, record_stopped, step_room}
+use Rattle.hpgl.proofs.lines.put_all.Goals as goal
+
+pub returns-in-Err-clause-says : goal.returns-in-Err-clause-says
+returns-in-Err-clause-says g c =
+    let a = c.args in
+    let l = c.loop-i in
+    rw c.in_record.ensures (record_stopped g.S.Sink.kind (range_of a.table) a.list.now a.path (g.S.Sink.held l.sink) l.here l.i c.loop-i-test.true _ _ c.put_record.ensures.says _ c.in-Err.is ∙ l.invariant.0.same)
+
+pub loop-i-preserved : goal.loop-i-preserved
+loop-i-preserved g c =
+    let a = c.args in
+    let l = c.loop-i in (
+      record {
+        same = record_on g.S.Sink.kind (range_of a.table) a.list.now a.path (g.S.Sink.held l.sink) l.here l.i c.loop-i-test.true _ _ c.put_record.ensures.says _ c.in-Ok.is ∙ l.invariant.0.same;
+        room = step_room g.S.Sink.kind (range_of a.table) a.list.now a.path (g.S.Sink.held l.sink) l.here l.i c.loop-i-test.true _ _ c.put_record.ensures.says _ c.in-Ok.is;
+      },
+      c.put_record.ensures.same ∙ l.invariant.1,
+    )
+
+pub returns-clause-says : goal.returns-clause-says
+returns-clause-says g c =
+    let a = c.args in
+    let l = c.loop-i in
+    none_left g.S.Sink.kind (range_of a.table) a.list.now a.path (g.S.Sink.held l.sink) l.here l.i c.loop-i-test.false ∙ l.invariant.0.same
