@@ -60,7 +60,6 @@ pub fn run(report: &mut Report, extent: Extent) {
     report.check("check of lists: a word at each place, with its sign and without", || every_word(extent));
     report.check("check of lists: random loops, spoilt", || random_lists(extent));
     report.check("check of lists: closed fills of the library pass, and spoilt ones", || own_lists(extent));
-    report.check("check of lists: 2,000 records in under 20 ms", in_time);
 }
 
 /// A closed outline through these points.
@@ -297,15 +296,6 @@ fn fastest(list: &[u32]) -> f64 {
         1e3 * (report::used() - before)
     };
     (0..20).map(|_| timed()).fold(f64::MAX, f64::min)
-}
-
-fn in_time() -> Tally {
-    let mut tally = Tally::default();
-    for list in sound_lists(2000) {
-        let took = report::patiently(|| fastest(&list), |took| *took < 20.0);
-        tally.count(check(&list) == SOUND && took < 20.0, || format!("{took} ms"));
-    }
-    tally
 }
 
 /// Milliseconds for lists of some sizes, by how they are made. Nothing is asserted.

@@ -228,7 +228,6 @@ pub fn run(report: &mut Report, extent: Extent) {
     report.check("cuts: files with every byte changed, left out, doubled and put in", || damaged(extent));
     report.check("cuts: random texts of the form's bytes", || random_texts(extent));
     report.check("cuts: closed fills of the library are closed cuts", || closed_fills(extent));
-    report.check("cuts: 50 MB a second both ways", in_time);
 }
 
 /// Each whole number with its neighbours among the floats and the half behind it, as x and as y; and its text as a number
@@ -468,14 +467,6 @@ fn plain_reader(file: &[u8]) -> Option<Vec<[i32; 4]>> {
         pen = to;
     }
     Some(lines)
-}
-
-fn in_time() -> Tally {
-    let mut tally = Tally::default();
-    let [write, _, read, _] = paces();
-    tally.count(write >= 50.0, || format!("written at {write:.1} MB a second"));
-    tally.count(read >= 50.0, || format!("read at {read:.1} MB a second"));
-    tally
 }
 
 /// Megabytes of HP-GL a second in one call, beside plain Rust. Nothing is asserted.

@@ -3,27 +3,11 @@
 
 use crate::sweep::Tally;
 use std::ffi::c_long;
-use std::thread;
-use std::time::{Duration, Instant};
+use std::time::Instant;
 
 unsafe extern "C" {
     /// C's processor time of this program, in microseconds.
     safe fn clock() -> c_long;
-}
-
-/// For how long a time that is over its limit is taken anew: a machine may be slow for some seconds, slow code stays so.
-const PATIENCE: Duration = Duration::from_secs(120);
-
-/// What was measured, anew until it is good or the patience is at its end.
-pub fn patiently<T>(mut measure: impl FnMut() -> T, is_good: impl Fn(&T) -> bool) -> T {
-    let start = Instant::now();
-    loop {
-        let found = measure();
-        if is_good(&found) || start.elapsed() > PATIENCE {
-            return found;
-        }
-        thread::sleep(Duration::from_secs(1));
-    }
 }
 
 /// The processor time of this program so far, in seconds.

@@ -526,7 +526,6 @@ pub fn run(report: &mut Report, extent: Extent) {
             (0..1000).for_each(|_| with_any_pen(&mut random, tally));
         })
     });
-    report.check("svg: 50 MB a second", in_time);
 }
 
 // ---- speed
@@ -578,13 +577,6 @@ fn paces() -> [f64; 2] {
         least = [least[0].min(between - start), least[1].min(end - between)];
     }
     least.map(|seconds| text.len() as f64 / 1e6 / seconds)
-}
-
-fn in_time() -> Tally {
-    let mut tally = Tally::default();
-    let [ours, _] = paces();
-    tally.count(ours >= 50.0, || format!("read at {ours:.1} MB a second"));
-    tally
 }
 
 /// Megabytes of path data a second in one call, beside plain Rust. Nothing is asserted.

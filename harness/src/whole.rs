@@ -292,7 +292,6 @@ pub fn run(report: &mut Report, extent: Extent) {
     report.check("whole: the 4,096th and the 4,097th segment, and tags that just fill their workgroups", limits);
     report.check("whole: numbers near the ends of both tables", ends);
     report.check("whole: sheets broken in one way or two, from the scan on", || broken_sheets(extent));
-    report.check("whole: at most 1.3 times its parts", in_time);
 }
 
 fn random_patterns(extent: Extent) -> Tally {
@@ -495,16 +494,6 @@ fn one_by_one(asked: &Asked, lists: &mut Lists) -> usize {
         flatten(layout, &lists.scene, &lists.prefixes, &mut boxes, &mut lists.lines).expect("room for all") as usize;
     black_box(cut(&lists.lines[..6 * lines], 0, &mut lists.bytes)).expect("a file");
     lines
-}
-
-const MOST: f64 = 1.3;
-
-fn in_time() -> Tally {
-    let mut tally = Tally::default();
-    let ([whole, parts], lines) = times();
-    tally.count(lines >= 1_000_000, || format!("only {lines} lines"));
-    tally.count(whole <= MOST * parts, || format!("{whole:.3} s for {lines} lines, its parts {parts:.3} s"));
-    tally
 }
 
 /// Seconds from path data to HP-GL, in one call and by its parts. Nothing is asserted.

@@ -1,6 +1,8 @@
-//! counted SHEET CALLS: flattens a sheet of docs/SPEED.md so many times and prints its name and how many lines a call
-//! stores. `tools/instructions` counts what that takes. Nothing of the published Rust is in here.
+//! counted [JOB CALLS]: does a job so many times, and prints its name, how much a call has to do and of what; without
+//! words, how many jobs there are. `tools/instructions` counts what they take. Nothing of the published Rust is in here.
 
+mod calls;
+mod desk;
 // The sheets are the oracle's own, of which not all is used here.
 #[allow(dead_code)]
 #[path = "../../src/drafts.rs"]
@@ -15,45 +17,52 @@ mod tags;
 #[path = "../../src/values.rs"]
 mod values;
 
-use std::hint::black_box;
+use drafts::KINDS;
 
-use drafts::{Encoded, Figures, KINDS, LINES};
-use hinthevoun::PathBox;
-
-/// A sheet and what is lent for it.
-struct Desk {
-    sheet: Encoded,
-    prefixes: Vec<u32>,
-    boxes: Vec<PathBox>,
-    lines: Vec<u32>,
+/// What is counted: a call, and of how many lines, bytes, records, tags or points it is.
+pub struct Job {
+    name: &'static str,
+    units: usize,
+    unit: &'static str,
+    call: Box<dyn FnMut()>,
 }
 
-impl Desk {
-    fn new(sheet: Encoded, room: usize) -> Self {
-        let mut prefixes = vec![0; sheet.layout.n_wg as usize * 256];
-        hinthevoun::scan(&sheet.scene, sheet.layout.tag_base, &mut prefixes).expect("a sheet can be scanned");
-        Self { prefixes, boxes: vec![PathBox::EMPTY; sheet.paths], lines: vec![0; 6 * room], sheet }
-    }
-
-    fn flatten(&mut self) -> usize {
-        let Encoded { layout, scene, .. } = &self.sheet;
-        let count = hinthevoun::flatten(*layout, scene, &self.prefixes, &mut self.boxes, &mut self.lines);
-        black_box(count.expect("a sheet is accepted")) as usize
+impl Job {
+    pub fn new(name: &'static str, units: usize, unit: &'static str, call: impl FnMut() + 'static) -> Self {
+        Self { name, units, unit, call: Box::new(call) }
     }
 }
 
-/// So many figures that they have about so many lines.
-fn desk(figures: Figures, lines: usize) -> Desk {
-    const SAMPLE: usize = 16;
-    let sample = Desk::new(figures.sheet(SAMPLE), 100_000).flatten();
-    Desk::new(figures.sheet((lines * SAMPLE).div_ceil(sample)), lines * 3 / 2)
+/// Behind the sheets: every exported function that works on a list or a text, and the whole way's parts one by one.
+const CALLS: [fn() -> Job; 13] = [
+    calls::scan,
+    calls::profile,
+    calls::check_outline,
+    calls::check_zeros,
+    calls::check_paths,
+    calls::mend,
+    calls::to_f32,
+    calls::to_i16,
+    calls::import,
+    calls::cut,
+    calls::read_cut,
+    calls::whole,
+    calls::parts,
+];
+
+fn job(k: usize) -> Job {
+    if k < KINDS.len() { desk::sheet(k) } else { CALLS[k - KINDS.len()]() }
 }
 
 fn main() {
     let words: Vec<usize> = std::env::args().skip(1).map(|word| word.parse().expect("a number")).collect();
-    let &[sheet, calls] = words.as_slice() else { panic!("usage: counted SHEET CALLS") };
-    let (name, figures) = KINDS[sheet];
-    let mut desk = desk(figures, LINES);
-    let lines = (0..calls).map(|_| desk.flatten()).last().expect("at least one call");
-    println!("{name}: {lines}");
+    match words.as_slice() {
+        [] => println!("{}", KINDS.len() + CALLS.len()),
+        &[k, calls] => {
+            let mut job = job(k);
+            (0..calls).for_each(|_| (job.call)());
+            println!("{}: {} {}", job.name, job.units, job.unit);
+        }
+        _ => panic!("usage: counted [JOB CALLS]"),
+    }
 }
