@@ -34,7 +34,7 @@ impl CheckError {
     }
 }
 
-// The verdict in numbers: 0 or the refusal's; then what is wrong, and in which record.
+// The verdict in the numbers that C is told: 0 or the refusal's; then what is wrong, and in which record.
 #[derive(Clone, Copy)]
 pub struct Told {
     pub number: u32,
@@ -91,6 +91,7 @@ fn uneven_at(list: &[u32], k: usize) -> bool
     !((c.starts0 == c.ends0) & (c.starts1 == c.ends1))
 }
 
+// One function over both tests would be `find` itself, and would promise what its caller brings.
 fn first_bad(list: &[u32], n: usize) -> Option<usize>
     ensures { Finds (bad_at list.now) n result }
 {

@@ -146,6 +146,7 @@ struct Bend {
 }
 
 impl Bend {
+    // Beside `normal` and not one with it: the integral and what it is taken of are others, which would be all of its parameters.
     fn low_dist(self) -> EspcRobust
         ensures { result ≡ low_dist_of self.k0 self.k1 }
     {

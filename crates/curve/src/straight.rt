@@ -7,7 +7,8 @@ ghost use Rattle.curve.specs.OneLine.{share_of, room_of, steep_of, is_along, are
 use crate::fit::Tip;
 use spiral::util::Vec2;
 
-// What a scale leaves of the limits to the chord's square.
+// What a scale leaves of the limits to the chord's square. None is a NaN here and below, and no Option: every later comparison with
+// it is false, so that nothing has to ask for it (specs/OneLine.antt).
 fn share(scale: f32) -> f32
     ensures { result ≡ share_of scale }
 {
@@ -20,7 +21,7 @@ fn share(scale: f32) -> f32
     if scale <= 64.0 {
         return 0.000244140625;
     }
-    0.0 / 0.0
+    f32::NAN
 }
 
 // The same, and none where the scale is near zero.
@@ -30,7 +31,7 @@ fn room(scale: f32) -> f32
     if 9.5367431640625e-7 <= scale {
         return share(scale);
     }
-    0.0 / 0.0
+    f32::NAN
 }
 
 // How steep a tangent may be against the chord.
@@ -46,7 +47,7 @@ fn steepest(room: f32, squared: f32) -> f32
     if squared <= 16777216.0 * room {
         return 0.000003814697265625;
     }
-    0.0 / 0.0
+    f32::NAN
 }
 
 // Of a tangent h, over the chord.

@@ -18,7 +18,8 @@ pub enum Stage {
     Export,
 }
 
-// Why a call is refused: the stage, the number of its refusal, and the place in that stage's own terms.
+// Why a call is refused: the stage, the number of its refusal, and the place in that stage's own terms. By number and not by the
+// stage's own error: so `cut_of` and with it `whole-way` tell a refusal, for C too.
 #[derive(Clone, Copy)]
 pub struct Refused {
     pub stage: Stage,
@@ -26,7 +27,7 @@ pub struct Refused {
     pub at: u64,
 }
 
-// An answer in numbers: 0 or the refusal's, its stage and place, and how many bytes the file has.
+// An answer in the numbers that C is told: 0 or the refusal's, its stage and place, and how many bytes the file has.
 #[derive(Clone, Copy)]
 pub struct Report {
     pub number: u32,

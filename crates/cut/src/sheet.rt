@@ -127,7 +127,7 @@ fn layout_of(words: usize, m: usize) -> Layout
 }
 
 // Writes the sheet in front of the scene, where it has room, and tells where its parts stand. Else it tells how many words the
-// sheet takes, and 0 of 2^31 or more.
+// sheet takes, and 0 of 2^31 or more: the number that C is told.
 pub fn lay(tags: &[u8], points: &[u32], six: Six, scene: &mut [u32]) -> Result<Layout, usize>
     ensures { laid result scene.new ≡ lay_of tags.now points.now (six_of six) scene.old }
 {

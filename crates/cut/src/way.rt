@@ -146,7 +146,7 @@ pub fn cut(
 {
     let mut pen = fresh_pen();
     if let Err(refusal) = read(text, &mut pen, tags, points) {
-        let report = reader::Report::from(refusal);
+        let report = reader::Report::from(Err(refusal));
         return Err(Stage::Text.refused(report.number, report.at as u64));
     }
     let n = smaller(pen.tags, tags.len());

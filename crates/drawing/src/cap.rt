@@ -8,6 +8,7 @@ use crate::arc::flatten_arc;
 use crate::line::{Nib, Stopped, output_line_with_transform};
 use spiral::util::Vec2;
 
+// Bits of the style's word and no enum: it is told once, here, and what is neither is a butt cap.
 const CAP_SQUARE: u32 = 0x0100_0000;
 
 const CAP_ROUND: u32 = 0x0200_0000;

@@ -12,6 +12,7 @@ use crate::line::{
 use spiral::euler::TANGENT_THRESH;
 use spiral::util::Vec2;
 
+// Bits of the style's word and no enum: it is told once, in `draw_join`, which refuses what is none of the three.
 const JOIN_MASK: u32 = 0x3000_0000;
 
 const JOIN_BEVEL: u32 = 0;
@@ -55,7 +56,8 @@ fn corners_of(p0: Vec2, n_prev: Vec2, n_next: Vec2) -> Corners
     }
 }
 
-// The front, then the back.
+// The front, then the back. Of the four parameters here and in the joins, `line.rt` says why the first two are two; the corners are
+// made by one join for all three, and the transform is the segment's.
 fn draw_sides(lines: &mut [u32], nib: Nib, k: Corners, transform: [f32; 6]) -> Result<Nib, Stopped>
     ensures { Drew lines.old nib (both_sides transform k) lines.new result }
 {

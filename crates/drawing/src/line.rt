@@ -62,7 +62,8 @@ pub struct Nib {
     pub reach: Reach,
 }
 
-// Not f32's min and max, which answer otherwise at a NaN and at the two zeros.
+// Not f32's min and max, which answer otherwise at a NaN and at the two zeros. Two functions of one comparison each: one for both
+// would be handed the comparison.
 fn lesser(a: f32, b: f32) -> f32
     ensures { result ≡ lesser_of a b }
 {
@@ -209,7 +210,8 @@ pub fn output_two_lines_with_transform(
     output_line_with_transform(lines, first, p10, p11, transform)
 }
 
-// Where a subdivision count is not a number.
+// Where a subdivision count is not a number. Two functions, since each is the one event of the drawing that its name says, and one
+// over a refusal would promise of every refusal what holds of these two.
 pub fn no_count(nib: Nib) -> Result<Nib, Stopped>
     ensures { (ws : List ℕ) → Drew ws nib (no_count ∷ []) ws result }
 {

@@ -19,6 +19,7 @@ pub extern "C" fn hinth_cut(list: &[u32], path: u32, bytes: &mut [u8], out: &mut
     report.number
 }
 
+// By a number: the C interface has one.
 pub(crate) fn table_of(number: u32) -> Table
     ensures { result ≡ table_of number }
 {

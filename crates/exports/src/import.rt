@@ -18,22 +18,13 @@ pub extern "C" fn hinth_import(
     ensures { imported result pen.new tags.new points.new out.new
         ≡ imported_by pen.old text.now tags.old points.old out.old }
 {
-    if pen.len() < 7 {
+    let Some(words) = pen.first_chunk_mut() else {
         put_told(out, [0]);
         return Fault::NoRoom.number();
-    }
-    let mut then = read_pen(pen);
-    let answer = read(text, &mut then, tags, points);
-    put_pen(pen, then);
-    match answer {
-        Ok(()) => {
-            put_told(out, [0]);
-            0
-        }
-        Err(refusal) => {
-            let report = Report::from(refusal);
-            put_told(out, [report.at as u64]);
-            report.number
-        }
-    }
+    };
+    let mut then = read_pen(words);
+    let report = Report::from(read(text, &mut then, tags, points));
+    put_pen(words, then);
+    put_told(out, [report.at as u64]);
+    report.number
 }

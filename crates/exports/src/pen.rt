@@ -1,7 +1,6 @@
 // The commands of `pattern`. The pen is lent as seven words: what is open (0 nothing, 1 moved, 2 drawing), the words of its
 // first and of its last point, and how many tags and point words are written. Seven zeros are a fresh pen.
-ghost use Rattle.std.specs.Prelude.{◌≡◌, ◌≤◌, ℕ, List, length};
-ghost use Rattle.std.proofs.lemmas.List.Edits.{sets};
+ghost use Rattle.std.specs.Prelude.{◌≡◌, ◌≤◌, ℕ, List, ◌++◌};
 ghost use Rattle.pattern.specs.Commands.{told, line, quad, cubic, move, draw, end};
 ghost use Rattle.pattern.specs.declared.pen.Pen.{Pen};
 ghost use Rattle.exports.specs.Pen.{open_of, open_word, spot_of, spot_at, pen_read, pen_words, penned, penned_of, penned_by};
@@ -9,6 +8,7 @@ ghost use Rattle.exports.specs.Pen.{open_of, open_word, spot_of, spot_at, pen_re
 use pattern::commands;
 use pattern::pen::{Fault, Open, Pen, Place, Spot};
 
+// What is open, by a number: the C interface has these.
 fn open_of(word: u64) -> Open
     ensures { result ≡ open_of word }
 {
@@ -21,6 +21,7 @@ fn open_of(word: u64) -> Open
     Open::Drawing
 }
 
+// Back to the number.
 fn open_word(opened: Open) -> u64
     ensures { result ≡ open_word opened }
 {
@@ -32,8 +33,8 @@ fn open_word(opened: Open) -> u64
 }
 
 // The low 32 bits of two words.
-fn spot_at(pen: &[u64], at: usize) -> Spot
-    requires { (at ≤ 3) × (7 ≤ length pen.now) }
+fn spot_at(pen: &[u64; 7], at: usize) -> Spot
+    requires { at ≤ 3 }
     ensures { result ≡ spot_at pen.now at }
 {
     Spot {
@@ -42,8 +43,7 @@ fn spot_at(pen: &[u64], at: usize) -> Spot
     }
 }
 
-pub(crate) fn read_pen(pen: &[u64]) -> Pen
-    requires { 7 ≤ length pen.now }
+pub(crate) fn read_pen(pen: &[u64; 7]) -> Pen
     ensures { result ≡ pen_read pen.now }
 {
     let opened = open_of(pen[0]);
@@ -61,28 +61,25 @@ pub(crate) fn read_pen(pen: &[u64]) -> Pen
     }
 }
 
-pub(crate) fn put_pen(words: &mut [u64], pen: Pen)
-    requires { 7 ≤ length words.old }
-    ensures { words.new ≡ sets words.old 0 (pen_words pen) }
+pub(crate) fn put_pen(words: &mut [u64; 7], pen: Pen)
+    ensures { words.new ≡ pen_words pen }
 {
     let place = pen.place;
-    let first = place.first;
-    let last = place.last;
-    let opened = place.opened;
-    words[0] = open_word(opened);
-    words[1] = first.x as u64;
-    words[2] = first.y as u64;
-    words[3] = last.x as u64;
-    words[4] = last.y as u64;
-    words[5] = pen.tags;
-    words[6] = pen.points;
+    *words = [
+        open_word(place.opened),
+        place.first.x as u64,
+        place.first.y as u64,
+        place.last.x as u64,
+        place.last.y as u64,
+        pen.tags,
+        pen.points,
+    ];
 }
 
 // The answer's number. After a refusal the pen's words stay as they are.
-fn keep_pen(drew: Result<Pen, Fault>, words: &mut [u64]) -> u32
-    requires { 7 ≤ length words.old }
-    ensures { (pen : Pen) (tags points : List ℕ)
-        → penned result words.new tags points ≡ penned_of (told drew pen tags points) words.old }
+fn keep_pen(drew: Result<Pen, Fault>, words: &mut [u64; 7]) -> u32
+    ensures { (pen : Pen) (rest tags points : List ℕ)
+        → penned result (words.new ++ rest) tags points ≡ penned_of (told drew pen tags points) (words.old ++ rest) }
 {
     match drew {
         Ok(pen) => {
@@ -102,6 +99,8 @@ fn spot_of(x: f32, y: f32) -> Spot
     }
 }
 
+// One body for each command, since C has a name for each: one for all would take the command as a closure that holds the lists,
+// and promise what that does.
 #[unsafe(no_mangle)]
 pub extern "C" fn hinth_move(
     pen: &mut [u64],
@@ -113,11 +112,11 @@ pub extern "C" fn hinth_move(
     ensures { penned result pen.new tags.new points.new
         ≡ penned_by pen.old (move (spot_of x y)) tags.old points.old }
 {
-    if pen.len() < 7 {
+    let Some(words) = pen.first_chunk_mut() else {
         return Fault::NoRoom.number();
-    }
-    let drew = commands::move_to(read_pen(pen), spot_of(x, y), tags, points);
-    keep_pen(drew, pen)
+    };
+    let drew = commands::move_to(read_pen(words), spot_of(x, y), tags, points);
+    keep_pen(drew, words)
 }
 
 #[unsafe(no_mangle)]
@@ -131,11 +130,11 @@ pub extern "C" fn hinth_line(
     ensures { penned result pen.new tags.new points.new
         ≡ penned_by pen.old (draw (line (spot_of x y))) tags.old points.old }
 {
-    if pen.len() < 7 {
+    let Some(words) = pen.first_chunk_mut() else {
         return Fault::NoRoom.number();
-    }
-    let drew = commands::line_to(read_pen(pen), spot_of(x, y), tags, points);
-    keep_pen(drew, pen)
+    };
+    let drew = commands::line_to(read_pen(words), spot_of(x, y), tags, points);
+    keep_pen(drew, words)
 }
 
 #[unsafe(no_mangle)]
@@ -151,13 +150,13 @@ pub extern "C" fn hinth_quad(
     ensures { penned result pen.new tags.new points.new
         ≡ penned_by pen.old (draw (quad (spot_of x1 y1) (spot_of x y))) tags.old points.old }
 {
-    if pen.len() < 7 {
+    let Some(words) = pen.first_chunk_mut() else {
         return Fault::NoRoom.number();
-    }
+    };
     let by = spot_of(x1, y1);
     let to = spot_of(x, y);
-    let drew = commands::quad_to(read_pen(pen), by, to, tags, points);
-    keep_pen(drew, pen)
+    let drew = commands::quad_to(read_pen(words), by, to, tags, points);
+    keep_pen(drew, words)
 }
 
 #[unsafe(no_mangle)]
@@ -175,14 +174,14 @@ pub extern "C" fn hinth_cubic(
     ensures { penned result pen.new tags.new points.new
         ≡ penned_by pen.old (draw (cubic (spot_of x1 y1) (spot_of x2 y2) (spot_of x y))) tags.old points.old }
 {
-    if pen.len() < 7 {
+    let Some(words) = pen.first_chunk_mut() else {
         return Fault::NoRoom.number();
-    }
+    };
     let from = spot_of(x1, y1);
     let by = spot_of(x2, y2);
     let to = spot_of(x, y);
-    let drew = commands::cubic_to(read_pen(pen), from, by, to, tags, points);
-    keep_pen(drew, pen)
+    let drew = commands::cubic_to(read_pen(words), from, by, to, tags, points);
+    keep_pen(drew, words)
 }
 
 #[unsafe(no_mangle)]
@@ -190,9 +189,9 @@ pub extern "C" fn hinth_end(pen: &mut [u64], tags: &mut [u8], points: &mut [u32]
     ensures { penned result pen.new tags.new points.new
         ≡ penned_by pen.old end tags.old points.old }
 {
-    if pen.len() < 7 {
+    let Some(words) = pen.first_chunk_mut() else {
         return Fault::NoRoom.number();
-    }
-    let drew = commands::end(read_pen(pen), tags, points);
-    keep_pen(drew, pen)
+    };
+    let drew = commands::end(read_pen(words), tags, points);
+    keep_pen(drew, words)
 }

@@ -1,6 +1,6 @@
 -- The form of a sheet, in the scope paper's words: eight-digit lowercase hex words, one a line. Definitions only.
-use Rattle.std.specs.Prelude.{ℕ, zero, suc, ◌+◌, ◌-◌, ◌*◌, cond, List, [], ◌∷◌, ◌++◌, eqb, leb, ltb, length, get_or, set, replicate, Option, Some, None}
-use Rattle.std.specs.Option.{option_and_then}
+use Rattle.std.specs.Prelude.{ℕ, zero, suc, ◌+◌, ◌-◌, ◌*◌, cond, List, [], ◌∷◌, ◌++◌, eqb, leb, ltb, length, get_or, replicate, Option, Some, None}
+use Rattle.std.specs.Option.{option_and_then, option_map}
 use Rattle.flatlist.specs.declared.input.Sheet.{Sheet}
 
 -- ---- the words of a text
@@ -12,6 +12,10 @@ digit_of b = cond (ltb b 48) None (cond (leb b 57) (Some (b - 48)) (cond (ltb b 
 -- words, where no line is none
 abbrev pub Words : Type 0
 Words = Option (List ℕ)
+
+-- the words of one line
+abbrev pub one_word : Option ℕ → Words
+one_word = option_map (λ w. w ∷ [])
 
 -- words and then those that follow
 unfoldable pub behind : List ℕ → Words → Words
@@ -44,10 +48,3 @@ judged = option_and_then judged_by
 
 unfoldable pub sheet_of : List ℕ → Option Sheet
 sheet_of text = judged (placed (words_from 8 0 text))
-
--- ---- at the end of the text
-
--- so many words are read, n digits of one are still to come, and w is the number of those before
-unfoldable pub ended_of : List ℕ → ℕ → ℕ → ℕ → Option Sheet
-ended_of ws count n w =
-    cond (eqb n 8) (good_sheet ws count) (cond (ltb 0 n) None (cond (leb 1030 count) None (good_sheet (set ws count w) (count + 1))))

@@ -1,17 +1,21 @@
--- What holds of a sheet: how many words a good one has, and that 9,271 bytes of a text are enough to tell. Assumes nothing.
+-- What holds of a sheet: how many words and boxes a good one has, and that 9,271 bytes of a text are enough to tell. Assumes nothing.
 use Rattle.std.specs.Prelude.{ℕ, zero, suc, ◌+◌, ◌-◌, ◌*◌, ◌≤◌, ◌<◌, ◌≡◌, refl, Bool, true, false, cond, List, [], ◌∷◌, ◌++◌, eqb, leb, ltb, length, get_or, take, replicate, Option, Some, None}
-use Rattle.std.proofs.Common.{sym, ap, ◌∙◌, subst, arith, ltb-false, leb-true, leb-false, eqb-true, take_all, length-take-le}
+use Rattle.std.proofs.Common.{sym, ap, ◌∙◌, subst, arith, ltb-false, leb-true, leb-false, eqb-true, take_all, length-take-le, length-append}
 use Rattle.std.proofs.lemmas.Bool.{lt-leb}
+use lib.ListN.{length-replicate}
 use Rattle.std.specs.Option.{option_and_then}
 use Rattle.flatlist.specs.Form.{digit_of, Words, behind, words_from, good_sheet, placed, judged_by, judged, sheet_of}
 use Rattle.flatlist.specs.declared.input.Sheet.{Sheet}
 
--- ---- a good sheet has its six words, and at most 1,024 behind them
+-- ---- a good sheet has its six words, at most 1,024 behind them, and at most 16 boxes
 
 none_some : (s : Sheet) → ◌≡◌ {A = Option Sheet} None (Some s) → ⊥
 none_some s h = let z : ◌≡◌ {A = ℕ} 0 1 = cc in omega arith
 
-placed_few : (r : Words) (s : Sheet) → placed r ≡ Some s → s.count ≤ 1030
+abbrev Placed : Sheet → Type 0
+Placed s = (s.count ≤ 1030) × (length s.words ≡ 1030)
+
+placed_few : (r : Words) (s : Sheet) → placed r ≡ Some s → Placed s
 unfolding placed
 placed_few None s h = absurd (none_some s h)
 placed_few (Some ws) s h = go (leb (length ws) 1030) refl h
@@ -19,28 +23,36 @@ placed_few (Some ws) s h = go (leb (length ws) 1030) refl h
     same : (t : Sheet) → ◌≡◌ {A = Option Sheet} (Some t) (Some s) → t ≡ s
     same t h = cc
 
-    go : (b : Bool) → leb (length ws) 1030 ≡ b → cond b (good_sheet (ws ++ replicate (1030 - length ws) 0) (length ws)) None ≡ Some s → s.count ≤ 1030
-    go true e h = subst (λ (t : Sheet). t.count ≤ 1030) (same _ h) (leb-true (length ws) 1030 e)
+    go : (b : Bool) → leb (length ws) 1030 ≡ b → cond b (good_sheet (ws ++ replicate (1030 - length ws) 0) (length ws)) None ≡ Some s → Placed s
+    go true e h =
+        let few = leb-true (length ws) 1030 e in
+        let zeros : List ℕ = replicate (1030 - length ws) 0 in
+        let zero : ℕ = 0 in
+        subst Placed (same _ h) (few, omega (arith, length-append ws zeros, length-replicate (1030 - length ws) zero))
     go false e h = absurd (none_some s h)
 
-judged_good : (t s : Sheet) → judged_by t ≡ Some s → (t ≡ s) × (6 ≤ t.count)
+judged_good : (t s : Sheet) → judged_by t ≡ Some s → (t ≡ s) × (6 ≤ t.count) × (get_or t.words 5 0 ≤ 16)
 unfolding judged_by
-judged_good t s = go (ltb t.count 6) (ltb 16 (get_or t.words 5 0)) refl
+judged_good t s = go (ltb t.count 6) (ltb 16 (get_or t.words 5 0)) refl refl
   where
-    go : (a b : Bool) → ltb t.count 6 ≡ a → cond a None (cond b None (Some t)) ≡ Some s → (t ≡ s) × (6 ≤ t.count)
-    go true b e h = absurd (none_some s h)
-    go false true e h = absurd (none_some s h)
-    go false false e h = (cc, ltb-false t.count 6 e)
+    go : (a b : Bool) → ltb t.count 6 ≡ a → ltb 16 (get_or t.words 5 0) ≡ b → cond a None (cond b None (Some t)) ≡ Some s
+        → (t ≡ s) × (6 ≤ t.count) × (get_or t.words 5 0 ≤ 16)
+    go true b e f h = absurd (none_some s h)
+    go false true e f h = absurd (none_some s h)
+    go false false e f h = (cc, ltb-false t.count 6 e, ltb-false 16 (get_or t.words 5 0) f)
 
-pub good_count : (text : List ℕ) (s : Sheet) → sheet_of text ≡ Some s → (6 ≤ s.count) × (s.count ≤ 1030)
+abbrev pub Good : Sheet → Type 0
+Good s = (6 ≤ s.count) × Placed s × (get_or s.words 5 0 ≤ 16)
+
+pub good_count : (text : List ℕ) (s : Sheet) → sheet_of text ≡ Some s → Good s
 unfolding sheet_of judged
 good_count text s = go (placed (words_from 8 0 text)) refl
   where
-    go : (r : Option Sheet) → placed (words_from 8 0 text) ≡ r → option_and_then judged_by r ≡ Some s → (6 ≤ s.count) × (s.count ≤ 1030)
+    go : (r : Option Sheet) → placed (words_from 8 0 text) ≡ r → option_and_then judged_by r ≡ Some s → Good s
     go None e h = absurd (none_some s h)
     go (Some t) e h =
         let k = judged_good t s h in
-        subst (λ (u : Sheet). (6 ≤ u.count) × (u.count ≤ 1030)) k.0 (k.1, placed_few (words_from 8 0 text) t e)
+        subst Good k.0 (k.1, placed_few (words_from 8 0 text) t e, k.2)
 
 -- ---- a word takes nine bytes at most, and its line end is one of them
 

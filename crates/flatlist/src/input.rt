@@ -1,10 +1,10 @@
 // A sheet's words: eight lowercase hex digits each, a word a line; the last line's end may be missing.
 // Six words stand before the scene, which has at most 1,024. A word takes nine bytes, its end with it,
 // so 9,270 bytes are the most, and one more shows that a sheet is too long.
-ghost use Rattle.std.specs.Prelude.{◌≡◌};
-ghost use Rattle.flatlist.specs.Form.{digit_of, words_from, placed, judged_by, sheet_of, ended_of};
+ghost use Rattle.std.specs.Prelude.{◌≡◌, ◌<◌, ◌≤◌, length};
+ghost use Rattle.flatlist.specs.Form.{digit_of, words_from, one_word, placed, judged_by, sheet_of};
 
-// So many words, with zeros behind.
+// So many words, with zeros behind. No slice: the program has no heap, and a sheet leaves its reader by value.
 #[derive(Clone, Copy)]
 pub struct Sheet {
     pub count: usize,
@@ -23,55 +23,38 @@ fn digit(b: u8) -> Option<u32>
     }
 }
 
-// At the end of the text: no word is open, or one that lacks its line end.
-#[tactic(auto, unfolding(crate::specs::Form::ended_of))]
-fn ended(mut words: [u32; 1030], count: usize, left: u32, word: u32) -> Option<Sheet>
-    ensures { result ≡ ended_of words count left word }
+// The word of a line, whose end may be missing.
+fn word_of(line: &[u8]) -> Option<u32>
+    requires { (0 < length line.now) × (length line.now ≤ 9) }
+    ensures { words_from 8 0 line.now ≡ one_word result }
 {
-    if left == 8 {
-        return Some(Sheet { count, words });
+    let mut word: u32 = 0;
+    let digits = line.get(..8)?;
+    for b in digits {
+        word = word * 16 + digit(*b)?;
     }
-    if left > 0 {
+    if line.len() > 8 && line[8] != b'\n' {
         return None;
     }
-    if count >= 1030 {
-        return None;
-    }
-    words[count] = word;
-    Some(Sheet {
-        count: count + 1,
-        words,
-    })
+    Some(word)
 }
 
-// The words of the text, where it is in the form and has not too many. `left` digits of a word are to come, and `word`
-// is the number of those before.
+// The words of the text, where it is in the form and has not too many. Each line has nine bytes, and the last at least
+// eight.
 fn read_words(text: &[u8]) -> Option<Sheet>
     ensures { result ≡ placed (words_from 8 0 text.now) }
 {
     let mut words = [0u32; 1030];
     let mut count: usize = 0;
-    let mut left: u32 = 8;
-    let mut word: u32 = 0;
-    for b in text {
-        if left > 0 {
-            word = word * 16 + digit(*b)?;
-            left -= 1;
-            continue;
-        }
-        let is_end = *b == b'\n';
-        if !is_end {
-            return None;
-        }
+    for line in text.chunks(9) {
+        let word = word_of(line)?;
         if count >= 1030 {
             return None;
         }
         words[count] = word;
         count += 1;
-        word = 0;
-        left = 8;
     }
-    ended(words, count, left, word)
+    Some(Sheet { count, words })
 }
 
 #[tactic(auto, unfolding(crate::specs::Form::judged_by))]

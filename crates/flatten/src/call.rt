@@ -37,7 +37,7 @@ pub struct Refused {
     pub count: u32,
 }
 
-// An answer in numbers; with 5, `end` is 1 where a line's start is no number and 2 where only its end is none.
+// An answer in the numbers that C is told; with 5, `end` is 1 where a line's start is no number and 2 where only its end is none.
 #[derive(Clone, Copy)]
 pub struct Told {
     pub number: u32,
@@ -144,7 +144,7 @@ pub fn flatten_main(
         prefixes,
     };
     let mut t = start(layout, scene.len());
-    // No range: behind a refusal no tag is left.
+    // No range: the walk of the specs counts the tags that are left, and behind a refusal none is.
     while 0 < t.left {
         t = step(given, lines, boxes.len(), t);
         merge_at(boxes, t.at, t.change);
@@ -166,7 +166,7 @@ fn few(n: usize) -> usize
     n.min(64)
 }
 
-// For callers that have no list of records to lend: the first n boxes are lent, and all come back. The rest comes as C
+// For callers that have no list of records to lend, and no heap for one: the first n boxes are lent, and all come back. The rest comes as C
 // lends it.
 pub fn flatten_owned(
     layout: Layout,

@@ -12,11 +12,6 @@ use Rattle.hpgl.specs.Reading.{value_of}
 use Rattle.hpgl.specs.declared.Table.{Table}
 use Rattle.hpgl.specs.declared.Table.TheVariants.{Old, New}
 
-pub value_back : (s : Bool) (w : ℕ) → w < 8388608 → to_z w32 (of_z w32 (value_of s w)) ≡ value_of s w
-unfolding value_of
-value_back true w h = read_back (let e : w < 2147483648 = omega arith in e)
-value_back false w h = read_back (let e : suc w < 2147483648 = omega arith in e)
-
 pub within_back : (table : Table) (z : ℤ) → Within (range_of table) z → to_z w32 (of_z w32 z) ≡ z
 unfolding Within range_of
 within_back Old (pos n) h = read_back (let e : n < 2147483648 = omega arith in e)

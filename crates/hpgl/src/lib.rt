@@ -27,7 +27,7 @@ pub struct Point {
     pub y: i32,
 }
 
-// An answer in numbers: 0 or the refusal's, how many bytes or lines stand, and the record or the position of a refusal.
+// An answer in the numbers that C is told: 0 or the refusal's, how many bytes or lines stand, and the record or the position of a refusal.
 #[derive(Clone, Copy)]
 pub struct Report {
     pub number: u32,

@@ -56,6 +56,7 @@ fn put_line<S: Sink>(
     put_command(sink, table, a, true, line.z, line.w)
 }
 
+// `last == Some((x, y))` was tried: what std says of it did not close.
 fn goes_on(last: Option<(u32, u32)>, x: u32, y: u32) -> bool
     ensures { result ≡ goes_on last x y }
 {

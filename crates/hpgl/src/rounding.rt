@@ -7,7 +7,7 @@ ghost use Rattle.hpgl.specs.Bits.{size_of, Rounds, Aims};
 use crate::Table;
 use crate::range::most_of;
 
-// m / unit.
+// m / unit. Not `to_nearest` of roots: 32 bits and no remainder, and `hpgl` needs no root.
 fn nearest_of(m: u32, unit: u32) -> u32
     requires { (m < 16777216) × (0 < unit) }
     ensures { result ≡ closest m unit }
@@ -34,7 +34,7 @@ fn size_of(field: u32, digits: u32) -> u32
     nearest_of(8388608 + digits, 1 << (150 - field))
 }
 
-// A whole number by its sign and its size.
+// A whole number by its sign and its size, and no i32: the text is written of the two, and the specs say it so.
 #[derive(Clone, Copy)]
 pub(crate) struct Signed {
     pub(crate) negative: bool,

@@ -76,7 +76,8 @@ pub(crate) fn write_command(out: &mut [u8], at: usize, draws: bool, to: Spot) ->
     write_ended(out, c, to.y, b';')
 }
 
-// How many digits n has.
+// How many digits n has. The lengths are worked out and not found by writing: room is asked for before a byte is written, and
+// where a file is only looked at there are no bytes.
 fn decimal_length(n: u32) -> usize
     ensures { Long (decimal n) (n + 1) result }
 {

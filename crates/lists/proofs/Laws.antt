@@ -8,7 +8,7 @@ use native.Mathlib.Numerals.{add-one}
 use native.Mathlib.Omega.{arith}
 use lib.Bits.{bit_xor}
 use lib.Dec.{ltb}
-use lib.ListN.{length, get_or, take, drop}
+use lib.ListN.{length, get_or, take, drop, length-take}
 use lib.Seq.{drop-cons, drop-drop, get_or-drop, get_or-take}
 use Rattle.std.specs.Simd.{first_chunks}
 use borrow.Author.Tests.{lt-ltb, le-ltb}
@@ -28,16 +28,18 @@ digits_below line at zero = omega arith
 digits_below line at (suc n) = omega (arith, digits_below line at n, digit_below (get_or line (at + n) 0), pow-suc 16 n)
 
 -- before the eighth digit there is room for one more
-pub room : (line : List ℕ) (at n : ℕ) → n < 8 → digits_at line at n * 16 + 16 ≤ 2 ^ 32
+pub room : (line : List ℕ) (at n : ℕ) → n < length (take 8 line) → digits_at line at n * 16 + 16 ≤ 2 ^ 32
 room line at n h =
-    let few : n ≤ 7 = omega arith in
+    let few : n ≤ 7 = omega (arith, length-take 8 line) in
     let most : 16 ^ n ≤ 16 ^ 7 = pow-le-pow_right (omega arith) few in
     omega (arith, digits_below line at n, most)
 
 -- one digit more
-pub next : (digits : List ℕ) (n : ℕ) → digits_at digits 0 n * 16 + digit_of (get_or digits n 0) ≡ digits_at digits 0 (n + 1)
+pub next : (digits : List ℕ) (n : ℕ) → n < length (take 8 digits) → digits_at digits 0 n * 16 + digit_of (get_or (take 8 digits) n 0) ≡ digits_at digits 0 (n + 1)
 unfolding digits_at
-next digits n = let e : 0 + n ≡ n = omega arith in rw (add-one n, e)
+next digits n h =
+    let e : 0 + n ≡ n = omega arith in
+    rw (add-one n, e, get_or-take 8 digits n 0 (omega (arith, length-take 8 digits)))
 
 -- ---- the pieces of a line, nine bytes each
 

@@ -1,9 +1,10 @@
-// What the programs that replay a list have in common: the reading of so many bytes, the list's words, the words lent to
-// a call and their hash, and the last line.
+// What the programs that replay a list have in common: the reading of so many bytes, the list's words and floats, the
+// words lent to a call and their hash, and the last line.
 #![tactic(auto)]
 
-ghost use Rattle.std.specs.Prelude.{◌≡◌, ◌<◌, ◌≤◌, IfOk, length, take, replicate};
+ghost use Rattle.std.specs.Prelude.{◌≡◌, ◌<◌, ◌≤◌, IfOk, length, take, replicate, from_bits};
 ghost use Rattle.std.specs.Io.KnownBytes.{Consumes, IsAtEnd};
+ghost use Rattle.std.specs.Float.{binary32};
 ghost use Rattle.lists.specs.Lists.{digit_of, digits_at, word_at, mixed_of, hash_of};
 
 use std::io;
@@ -12,8 +13,8 @@ use std::io::Read;
 // What every lent word is at first.
 pub const LENT: u32 = 0xa5a5a5a5;
 
-// Reads until the buffer is full or the input ends, and tells how many bytes it put at the buffer's start. A read that a
-// signal interrupts has failed.
+// Reads until the buffer is full or the input ends, and tells how many bytes it put at the buffer's start. A read that
+// a signal interrupts has failed.
 pub fn read_full<R: Read>(reader: &mut R, buf: &mut [u8]) -> io::Result<usize>
     ensures len { length buf.new ≡ length buf.old }
     ensures bound { IfOk result (λ n. n ≤ length buf.new) }
@@ -46,14 +47,14 @@ fn number(digits: &[u8]) -> u32
     ensures { result ≡ digits_at digits.now 0 8 }
 {
     let mut w: u32 = 0;
-    for i in 0..8 {
-        w = w * 16 + digit(digits[i]);
+    for b in &digits[..8] {
+        w = w * 16 + digit(*b);
     }
     w
 }
 
-// The word k of a line, whose words are eight hex digits with one byte behind them; 0 behind the last. No Option: a line is read
-// whole before its words are asked for, so each of the programs would only write `unwrap_or(0)`.
+// The word k of a line, whose words are eight hex digits with one byte behind them; 0 behind the last. No Option: a
+// line is read whole before its words are asked for, so each of the programs would only write `unwrap_or(0)`.
 pub fn word(line: &[u8], k: usize) -> u32
     ensures { result ≡ word_at line.now k }
 {
@@ -61,6 +62,13 @@ pub fn word(line: &[u8], k: usize) -> u32
         Some(piece) => number(piece),
         None => 0,
     }
+}
+
+// The float that the word k of a line is.
+pub fn float(line: &[u8], k: usize) -> f32
+    ensures { result ≡ from_bits binary32 (word_at line.now k) }
+{
+    std::num::f32_from_bits_with_nan(word(line, k))
 }
 
 pub fn fill(words: &mut [u32], word: u32)
@@ -90,8 +98,8 @@ fn report(rt: &impl Print, count: u64, what: &str, differ: u64) -> io::Result<()
     println!(rt; "{count} {what}, {differ} differ")
 }
 
-// More lines than any list has.
-const MOST: u64 = 1000000;
+// More lines, or scenes, than any list has.
+pub const MOST: u64 = 1000000;
 
 // The calls of a list, a line to each.
 pub trait Calls {
@@ -99,8 +107,9 @@ pub trait Calls {
     fn is_right(&mut self, line: &[u8]) -> bool;
 }
 
-// Replays a list of single calls, with the bytes of a line lent: writes each line whose answer is another here, and last how
-// many lines there were and how many differ.
+// Replays a list of single calls: writes each line whose answer is another here, and last how many lines there were and
+// how many differ. The bytes of a line are lent, since for a line of N bytes of its own `Calls` would be a bound that
+// names N, and the borrow checker covers none that names a const parameter.
 pub fn replay_lines<C: Calls>(
     rt: &(impl Input + Print),
     line: &mut [u8],

@@ -76,18 +76,8 @@ pub halve : {a b c : Scaled} {more : ℕ} {u v w u' v' w' : Scaled} {q q' : ℕ}
     → Halving a b c more u' v' w' q'
 halve {u = u} {v = v} {w = w} {q = q} h e f g i = rw (e, f, g, i) (record { few = few_carried u v w q h.few; same = carried_on u v w q ∙ h.same })
 
-pub carry_room : {a b c : Scaled} {more : ℕ} {u v w : Scaled} {q : ℕ} → Halving a b c more u v w q → q ≤ 2
-carry_room h = h.few
-
 no_value : (n : Scaled) → n.digits ≡ 0 → value_of n ≡ 0
 no_value n e = ap (λ (m : ℕ). m * 2 ^ n.shift) e ∙ omega arith
-
-pub halved_out : {a b c : Scaled} {more : ℕ} {u v w : Scaled} {q : ℕ} → Halving a b c more u v w q → u.digits + v.digits + w.digits ≤ 0 → ltb 0 q ≡ ltb (value_of a) (value_of b + value_of c + more)
-halved_out {u = u} {v = v} {w = w} {q = q} h l =
-    let e = no_value u (omega arith) in
-    let f = no_value v (omega arith) in
-    let g = no_value w (omega arith) in
-    same_test 0 q (value_of u) (value_of v + value_of w + q) (λ k. omega arith) (λ k. omega arith) ∙ h.same
 
 -- ---- how far two magnitudes are apart, by sums alone
 

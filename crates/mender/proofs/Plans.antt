@@ -37,14 +37,6 @@ plan_more {ws} {t} {n} {paths} {lines} {k} a b h l e f =
       of_lines = omega (arith, h.of_lines);
     }
 
-pub all_planned : {ws : List ℕ} {t paths lines k : ℕ} → Planned ws t (count ws) paths lines k → count ws ≤ k → Counted ws t paths lines × (lines ≤ count ws)
-all_planned {ws} {t} {paths} {lines} {k} h l =
-    let w = h.within in
-    let e : k ≡ count ws = omega arith in (
-      record { of_paths = h.of_paths ∙ ap (λ (j : ℕ). length (report_to ws t j)) e; of_lines = h.of_lines ∙ ap (λ (j : ℕ). length (lines_to ws t j)) e },
-      omega (arith, h.few_lines),
-    )
-
 -- what is said of the first k records is written
 pub record Wrote (ws : List ℕ) (t n : ℕ) (room₀ report₀ room report : List ℕ) (done : Plan) (k : ℕ) : Type 0 where
   pub within : k ≤ n

@@ -18,7 +18,7 @@ pub enum Case {
 
 // What is looked for among the records of a path: one with a point out of balance; one whose end is an end once more than a start;
 // one whose start is a start once more than an end; one with a point out of balance that is neither of two points.
-// An enum and not closures: the laws speak of these four alone, and four closures would each read the same record for them.
+// An enum and not closures: the laws speak of these four alone, by name.
 #[derive(Clone, Copy)]
 pub enum Sought {
     Uneven,

@@ -33,7 +33,7 @@ impl From<CheckError> for MendError {
     }
 }
 
-// The answer in numbers: 0 or the refusal's, and the two that it names.
+// The answer in the numbers that C is told: 0 or the refusal's, and the two that it names.
 #[derive(Clone, Copy)]
 pub struct Told {
     pub number: u32,
@@ -179,7 +179,7 @@ fn append(room: &mut [u32], at: usize, path: u32, case: Case)
 }
 
 // The list and the tolerance are read all the way, the room and the report lent anew at each record: in one struct they would be
-// lent by it twice over. Writes what is said of record k behind the paths and lines before it, and counts on.
+// lent by it twice over, and in a struct of their own the list would still go alone to `records` and `checker`. Writes what is said of record k behind the paths and lines before it, and counts on.
 fn write_at(
     list: &[u32],
     tolerance: u32,

@@ -3,7 +3,8 @@ ghost use Rattle.std.specs.Prelude.{◌≡◌, ◌+◌, ◌-◌, ◌≤◌, leb,
 ghost use Rattle.mender.specs.Near.{steps, is_near};
 ghost use Rattle.mender.specs.Scaled.{value_of, half_of, low_of, carry_of};
 
-// The whole number digits * 2^shift, which may be far wider than a word.
+// The whole number digits * 2^shift, which may be far wider than a word. As roots' `Parts` and svg's `Shifted` it is two words, but
+// each crate says another thing of them, and none of the three uses another.
 #[derive(Clone, Copy)]
 pub struct Scaled {
     pub digits: u32,

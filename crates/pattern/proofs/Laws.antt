@@ -34,7 +34,7 @@ unfolding words_of
 words_length [] = refl
 words_length (p ∷ ps) = let e = words_length ps in omega arith
 
-pub whole_length : (ps qs : List Spot) → length ps * 2 + length qs * 2 ≡ length (words_of (ps ++ qs))
+pub whole_length : (ps qs : List Spot) → (length ps + length qs) * 2 ≡ length (words_of (ps ++ qs))
 whole_length ps qs = sym (words_length (ps ++ qs) ∙ simp length-append (omega arith))
 
 -- of points that have room, the next two words
@@ -175,12 +175,11 @@ module _ (pen : Pen) (then : Place) (tags points : List ℕ) where
         go true false f e = ap (λ (a : Answer). outcome a pen tags points) e ∙ refused (behind tag ws) (by_room false f)
         go true true f e = let z : ◌≡◌ {A = ℕ} 0 1 = cc in absurd (omega arith)
 
-    pub added : (sound : Bool) (n : ℕ) (ps : List ℕ) {x : Unit {0}} → n ≡ length ws → Ok x ≡ verdict_of sound Room → ps ≡ sets points pen.points ws
-        → outcome (Ok tt) (counted then (pen.tags + 1) (pen.points + n)) (set tags pen.tags tag) ps ≡ Spec sound
-    unfolding soundly written
-    added sound n ps f e g =
+    pub added : (sound : Bool) {x : Unit {0}} → Ok x ≡ verdict_of sound Room → written pen then (behind tag ws) tags points ≡ Spec sound
+    unfolding soundly
+    added sound e =
         let k = accepts sound Room e in
-        rw (k.0, g, f) (stored (behind tag ws) (by_room true k.1))
+        rw k.0 (stored (behind tag ws) (by_room true k.1))
 
 -- ---- a segment
 

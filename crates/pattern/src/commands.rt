@@ -1,12 +1,12 @@
 // The five commands. Each looks at what it is given before it writes, 20, then 22, then 21, so that a refusal changes nothing:
 // the caller keeps its pen, and what it lent is as it was. The pen goes in by value and comes back where the command is accepted;
 // in one struct with the lists it would be lent too, and a refusal would have to promise what the types say.
-ghost use Rattle.std.specs.Prelude.{◌≡◌, ◌&&◌, List, ◌++◌, ℕ, ◌+◌, ◌≤◌, leb, length};
+ghost use Rattle.std.specs.Prelude.{◌≡◌, ◌&&◌, List, ◌++◌, ℕ, ◌+◌, ◌*◌, ◌≤◌, leb, length, Ok};
 ghost use Rattle.std.proofs.lemmas.List.Edits.{sets};
 ghost use Rattle.std.specs.Float.{binary32};
 ghost use Rattle.std.specs.Float.Ieee.{of_bits};
 ghost use Rattle.std.specs.Float.Ieee.Scale.{finite};
-ghost use Rattle.pattern.specs.Commands.{same, words_of, numbers, line, quad, cubic, move, draw, end, end_bit, behind, finishing, ended, told, inked, command_of};
+ghost use Rattle.pattern.specs.Commands.{same, words_of, numbers, line, quad, cubic, move, draw, end, end_bit, behind, finishing, ended, told, written, inked, command_of};
 ghost use Rattle.pattern.specs.Drawn.{verdict_of, soundly, drawn_by};
 
 use crate::pen::{Fault, Open, Pen, Place, Spot};
@@ -20,7 +20,7 @@ fn has_room(length: usize, at: u64, n: usize) -> bool
     from <= length && n <= length - from
 }
 
-// Two words at a turn: of a loop that copies word by word the compiler would make a call of C's memcpy, which is not linked.
+// Two words at a turn, so that k goes on by two: of a loop that copies word by word the compiler would make a call of C's memcpy, which is not linked.
 #[tactic(auto, using(crate::proofs::Laws::next_place))]
 fn put_spots(points: &mut [u32], at: usize, spots: &[Spot])
     requires { at + length (words_of spots.now) ≤ length points.old }
@@ -55,7 +55,35 @@ fn verdict(sound: bool, room: bool) -> Result<(), Fault>
     Ok(())
 }
 
-// One tag and the points behind it, the subpath's start in front where it is its first, if what the command names is sound.
+// One tag and the points behind it, the subpath's start in front where it is its first.
+#[tactic(auto, using(crate::proofs::Laws::words_length))]
+fn put_behind(
+    pen: Pen,
+    then: Place,
+    tag: u8,
+    start: &[Spot],
+    spots: &[Spot],
+    tags: &mut [u8],
+    points: &mut [u32],
+) -> Pen
+    requires { (pen.tags + 1 ≤ length tags.old) × (pen.points + (length start.now + length spots.now) * 2 ≤ length points.old) }
+    ensures { told (Ok result) pen tags.new points.new
+        ≡ written pen then (behind tag (words_of (start.now ++ spots.now))) tags.old points.old }
+{
+    let at = pen.tags;
+    let from = pen.points as usize;
+    let rest = from + start.len() * 2;
+    tags[at as usize] = tag;
+    put_spots(points, from, start);
+    put_spots(points, rest, spots);
+    Pen {
+        place: then,
+        tags: at + 1,
+        points: (rest + spots.len() * 2) as u64,
+    }
+}
+
+// The same if what the command names is sound.
 fn add(
     pen: Pen,
     then: Place,
@@ -70,20 +98,10 @@ fn add(
     ensures { told result pen tags.new points.new
         ≡ soundly sound pen then (behind tag (words_of (start.now ++ spots.now))) tags.old points.old }
 {
-    let at = pen.tags;
-    let from = pen.points;
-    let first = start.len() * 2;
-    let n = first + spots.len() * 2;
-    let room = have_room(tags.len(), at, points.len(), from, n);
+    let n = (start.len() + spots.len()) * 2;
+    let room = have_room(tags.len(), pen.tags, points.len(), pen.points, n);
     verdict(sound, room)?;
-    tags[at as usize] = tag;
-    put_spots(points, from as usize, start);
-    put_spots(points, from as usize + first, spots);
-    Ok(Pen {
-        place: then,
-        tags: at + 1,
-        points: from + n as u64,
-    })
+    Ok(put_behind(pen, then, tag, start, spots, tags, points))
 }
 
 // The tag with its end bit set.

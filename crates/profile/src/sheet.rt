@@ -36,7 +36,7 @@ pub struct Failed {
     pub tag: u64,
 }
 
-// An answer in numbers.
+// An answer in the numbers that C is told.
 #[derive(Clone, Copy)]
 pub struct Told {
     pub number: u32,
@@ -89,7 +89,8 @@ fn unread(why: Refusal, tag: u64) -> Failed
     }
 }
 
-// Behind its head: what a segment has read.
+// Behind its head: what a segment has read. flatten's `read_drawing` makes the same three reads, with a test of its own behind the
+// first: one function for both was tried, and took a law, a definition and two answers for one line.
 #[tactic(auto, unfolding(crate::specs::Reads::rest_by))]
 fn read_rest(given: Given, ix: u64, head: Head) -> Result<Head, Refusal>
     ensures { result ≡ rest_by (no_segment head) (seen given.entry) ix head }

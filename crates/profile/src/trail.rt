@@ -18,7 +18,8 @@ pub struct Piece {
 }
 
 // Behind some tags: their segments and finished subpaths; whether a subpath is unfinished, and where it
-// began; and the words of the first segment's transform.
+// began; and the words of the first segment's transform. No Option: a trail that was entered has a start
+// whether or not a subpath was unfinished before, and `segments` is 0 where there are no words.
 #[derive(Clone, Copy)]
 pub struct Trail {
     pub segments: u64,

@@ -29,7 +29,7 @@ pub fn is_point(path: u32, x: u32, y: u32, q: u32, a: u32, b: u32) -> bool
 pub fn one(b: bool) -> usize
     ensures { result ≡ once b }
 {
-    if b { 1 } else { 0 }
+    usize::from(b)
 }
 
 // The word at place i of record k, and 0 behind the list's end, as `word` reads a list. No Option: each caller's record is known
@@ -81,11 +81,12 @@ pub fn line_at(list: &[u32], k: usize) -> Line
 pub fn keys_at(list: &[u32], k: usize) -> Line
     ensures { result ≡ keys_at list.now k }
 {
+    let line = line_at(list, k);
     Line {
-        x: key_at(list, k, 2),
-        y: key_at(list, k, 3),
-        z: key_at(list, k, 4),
-        w: key_at(list, k, 5),
+        x: key_of(line.x),
+        y: key_of(line.y),
+        z: key_of(line.z),
+        w: key_of(line.w),
     }
 }
 

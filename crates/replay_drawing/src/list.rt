@@ -1,14 +1,16 @@
-// A line of the list is a call, the words lent to it, its arguments, and what it answers and stores, as words of eight hex
-// digits; a refusal's number is in the lowest byte of its word, the line's end in the next. Writes each line whose answer is another here, and last how many lines there were and how many differ.
+// A line of the list is a call, the words lent to it, its arguments, and what it answers and stores, as words of eight
+// hex digits; a refusal's number is in the lowest byte of its word, the line's end in the next. Writes each line whose
+// answer is another here, and last how many lines there were and how many differ.
 use crate::draw;
 use drawing::line::{IntBbox, Nib, Stopped};
-use lists::{Calls, word};
+use lists::{Calls, float, word};
 use std::io;
 
 fn whole(line: &[u8], k: usize) -> i32 {
-    maths::to_i32(maths::float_of(word(line, k)))
+    maths::to_i32(float(line, k))
 }
 
+// No derive on `Bbox`: the words would have to be made a box, field by field, for this one comparison.
 fn is_box(line: &[u8], b: IntBbox) -> bool {
     (b.x0 == whole(line, 26))
         & (b.y0 == whole(line, 27))

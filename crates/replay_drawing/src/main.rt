@@ -1,5 +1,5 @@
-// Replays the list on standard input, which docs/ORACLE.md describes. Here are the numbers and points of a line, and the
-// calls of `drawing` and `curve` by their numbers in the list.
+// Replays the list on standard input, which docs/ORACLE.md describes. Here are the numbers and points of a line, and
+// the calls of `drawing` and `curve` by their numbers in the list.
 #![tactic(auto)]
 
 mod list;
@@ -9,13 +9,9 @@ use drawing::arc::flatten_arc;
 use drawing::cap::draw_cap;
 use drawing::join::draw_join;
 use drawing::line::{Nib, Reach, Stopped};
-use lists::word;
+use lists::{float, word};
 use spiral::util::Vec2;
 use std::io;
-
-fn float(line: &[u8], k: usize) -> f32 {
-    maths::float_of(word(line, k))
-}
 
 // The angle of an arc or the offset of a curve.
 fn number(line: &[u8]) -> f32 {
@@ -111,7 +107,8 @@ fn euler(lines: &mut [u32], nib: Nib, line: &[u8]) -> Result<Nib, Stopped> {
     flatten_euler(lines, nib, cubic, transform(line), number(line), start, end)
 }
 
-// Draws behind as many lines as the vector says. The Rust tells no tag: 0 stands for it.
+// Draws behind as many lines as the vector says. The Rust tells no tag: 0 stands for it. The call is a number that a
+// list holds: as an enum, it would be named once more.
 fn draw(lines: &mut [u32], line: &[u8]) -> Result<Nib, Stopped> {
     let reach = Reach::empty();
     let nib = Nib {

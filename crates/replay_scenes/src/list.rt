@@ -1,9 +1,10 @@
-// What a scan of the tags and a whole call are given and lent for each scene, and what they answer and leave. Writes the
-// head of each scene that has another answer here, and last how many scenes there were and how many differ.
+// What a scan of the tags and a whole call are given and lent for each scene, and what they answer and leave. Writes
+// the head of each scene that has another answer here, and last how many scenes there were and how many differ.
 ghost use Rattle.std.specs.Prelude.{◌≤◌};
 
 use crate::{CallTold, Head, ScanTold, boxes_of, patch, put_boxes, read_head, read_words};
 use flatten::call::{Told, flatten_owned};
+use lists::MOST;
 use refusals::Refusal;
 use scene::tags::scan;
 use std::io;
@@ -41,6 +42,7 @@ fn same_scan(head: Head, scene: &[u32], prefixes: &mut [u32]) -> bool {
     same_count(told, r) & (lists::hash(prefixes) == told.prefixes)
 }
 
+// No derive on `Told`: the words would have to be made one, field by field, for this one comparison.
 fn same_answer(told: CallTold, r: Told) -> bool {
     let stop = told.stop;
     (stop % 256 == r.number)
@@ -122,9 +124,6 @@ fn replay<R: Read>(input: &mut R, head: Head) -> io::Result<Replayed> {
 
 // The bytes of a head, its end with them.
 const HEAD: usize = 162;
-
-// More scenes than any list has.
-const MOST: u64 = 1000000;
 
 fn write_broken(rt: &impl Print) -> io::Result<()> {
     rt.println("the list ends inside a scene, or the scene is too large")

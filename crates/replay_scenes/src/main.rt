@@ -1,5 +1,5 @@
-// Replays the scenes of the list on standard input, which docs/ORACLE.md describes. Here is what stands in the list: heads,
-// the words behind them, and boxes.
+// Replays the scenes of the list on standard input, which docs/ORACLE.md describes. Here is what stands in the list:
+// heads, the words behind them, and boxes.
 #![tactic(auto)]
 
 ghost use Rattle.std.specs.Prelude.{◌≤◌};
@@ -113,24 +113,15 @@ fn read_piece<R: Read>(input: &mut R) -> io::Result<Option<Piece>> {
     }))
 }
 
-// How often a word stands: never where the list has ended.
-fn times<R: Read>(input: &mut R, p: Piece) -> io::Result<usize> {
+// How often a word stands: none where the list has ended.
+fn times<R: Read>(input: &mut R, p: Piece) -> io::Result<Option<usize>> {
     if p.behind != b'*' {
-        return Ok(1);
+        return Ok(Some(1));
     }
-    match read_piece(input)? {
-        Some(next) => Ok(next.word as usize),
-        None => Ok(0),
-    }
+    Ok(read_piece(input)?.map(|next| next.word as usize))
 }
 
-fn none_above(most: usize, n: usize) -> usize
-    ensures { result ≤ most }
-{
-    if n <= most { n } else { 0 }
-}
-
-// Puts the next words of the list there. Not if it has fewer, or a run that goes on behind.
+// Puts the next words of the list there. Not if it has fewer, or a run of none, or one that goes on behind.
 fn read_words<R: Read>(input: &mut R, words: &mut [u32]) -> io::Result<bool> {
     let mut at: usize = 0;
     // No range: a piece is a run of any length.
@@ -138,8 +129,10 @@ fn read_words<R: Read>(input: &mut R, words: &mut [u32]) -> io::Result<bool> {
         let Some(piece) = read_piece(input)? else {
             return Ok(false);
         };
-        let n = none_above(words.len() - at, times(input, piece)?);
-        if n == 0 {
+        let Some(n) = times(input, piece)? else {
+            return Ok(false);
+        };
+        if n == 0 || words.len() - at < n {
             return Ok(false);
         }
         let end = at + n;
@@ -167,51 +160,42 @@ fn patch<R: Read>(input: &mut R, words: &mut [u32], patches: usize) -> io::Resul
 
 // ---- boxes as words of the list, six to a box
 
-// The box k, where there are words for it.
-fn box_of(words: &[u32], k: usize) -> PathBox {
-    if words.len() / 6 <= k {
-        return PathBox::fresh();
-    }
+fn box_of(words: &[u32; 6]) -> PathBox {
+    let [x0, y0, x1, y1, draw_flags, trans_ix] = *words;
     PathBox {
-        x0: words[k * 6].cast_signed(),
-        y0: words[k * 6 + 1].cast_signed(),
-        x1: words[k * 6 + 2].cast_signed(),
-        y1: words[k * 6 + 3].cast_signed(),
-        draw_flags: words[k * 6 + 4],
-        trans_ix: words[k * 6 + 5],
+        x0: x0.cast_signed(),
+        y0: y0.cast_signed(),
+        x1: x1.cast_signed(),
+        y1: y1.cast_signed(),
+        draw_flags,
+        trans_ix,
     }
 }
 
+fn words_of(b: PathBox) -> [u32; 6] {
+    [
+        b.x0.cast_unsigned(),
+        b.y0.cast_unsigned(),
+        b.x1.cast_unsigned(),
+        b.y1.cast_unsigned(),
+        b.draw_flags,
+        b.trans_ix,
+    ]
+}
+
+// As many as there are words for, and fresh ones behind.
 fn boxes_of(words: &[u32]) -> [PathBox; 64] {
     let mut boxes = [PathBox::fresh(); 64];
-    for k in 0..64 {
-        boxes[k] = box_of(words, k);
+    for (b, six) in boxes.iter_mut().zip(words.as_chunks::<6>().0) {
+        *b = box_of(six);
     }
     boxes
 }
 
-// The word i of a box's six.
-fn word_of(b: PathBox, i: usize) -> u32 {
-    match i {
-        0 => b.x0.cast_unsigned(),
-        1 => b.y0.cast_unsigned(),
-        2 => b.x1.cast_unsigned(),
-        3 => b.y1.cast_unsigned(),
-        4 => b.draw_flags,
-        _ => b.trans_ix,
-    }
-}
-
-fn put(words: &mut [u32], i: usize, w: u32) {
-    if i < words.len() {
-        words[i] = w;
-    }
-}
-
 // As many boxes as there are words for.
 fn put_boxes(words: &mut [u32], boxes: [PathBox; 64]) {
-    for i in 0..384 {
-        put(words, i, word_of(boxes[i / 6], i % 6));
+    for (six, b) in words.as_chunks_mut::<6>().0.iter_mut().zip(boxes) {
+        *six = words_of(b);
     }
 }
 

@@ -1,12 +1,8 @@
-// A line of the list is a call's number, the ten numbers given and the four of the answer, as words of eight hex digits.
-// Writes each line whose answer is another here, and last how many lines there were and how many differ.
+// A line of the list is a call's number, the ten numbers given and the four of the answer, as words of eight hex
+// digits. Writes each line whose answer is another here, and last how many lines there were and how many differ.
 use crate::{Answer, run};
-use lists::{Calls, word};
+use lists::{Calls, float, word};
 use std::io;
-
-fn given(line: &[u8], k: usize) -> f32 {
-    maths::float_of(word(line, k))
-}
 
 // Whether the number has the bits of the word, or both are no numbers.
 fn same(x: f32, w: u32) -> bool {
@@ -29,16 +25,16 @@ struct Spiral;
 impl Calls for Spiral {
     fn is_right(&mut self, line: &[u8]) -> bool {
         let v = [
-            given(line, 1),
-            given(line, 2),
-            given(line, 3),
-            given(line, 4),
-            given(line, 5),
-            given(line, 6),
-            given(line, 7),
-            given(line, 8),
-            given(line, 9),
-            given(line, 10),
+            float(line, 1),
+            float(line, 2),
+            float(line, 3),
+            float(line, 4),
+            float(line, 5),
+            float(line, 6),
+            float(line, 7),
+            float(line, 8),
+            float(line, 9),
+            float(line, 10),
         ];
         is_told(line, run(word(line, 0), v))
     }

@@ -1,5 +1,5 @@
-// Replays the list on standard input, which docs/ORACLE.md describes. Here are the calls of `spiral` by their numbers in
-// the list.
+// Replays the list on standard input, which docs/ORACLE.md describes. Here are the calls of `spiral` by their numbers
+// in the list.
 #![tactic(auto)]
 
 mod list;
@@ -60,7 +60,7 @@ fn applied(v: [f32; 10]) -> Answer {
     point(util::apply(z, Vec2::new(v[6], v[7])))
 }
 
-// The calls on points.
+// The calls on points, by numbers that a list holds: as an enum, each call would be named once more.
 fn of_points(call: u32, v: [f32; 10]) -> Answer {
     let p = Vec2::new(v[0], v[1]);
     let q = Vec2::new(v[2], v[3]);
@@ -81,6 +81,7 @@ fn of_points(call: u32, v: [f32; 10]) -> Answer {
     }
 }
 
+// By numbers that a list holds, as above.
 fn run(call: u32, v: [f32; 10]) -> Answer {
     match call {
         14 => applied(v),

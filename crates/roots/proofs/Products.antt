@@ -26,10 +26,6 @@ square_times_is m w = at (m / 4096) (m % 4096) (div-add-mod' m 4096)
     at : (h l : ℕ) → h * 4096 + l ≡ m → h * h * w * 16777216 + h * l * w * 8192 + l * l * w ≡ m * m * w
     at h l e = omega (arith, ap (λ (x : ℕ). x * x * w) e)
 
--- a product of two parts
-pub part_le : (x y m n : ℕ) → x ≤ m → y ≤ n → x * y ≤ m * n
-part_le x y m n h k = mul-le-mul h k
-
 -- ---- `is_near`: n * 2 ^ 16 + low is q², and n * q + low * (q / 2 ^ 16) is q³ / 2 ^ 16 but for less than 2 ^ 16
 module _ (q n low : ℕ) (Q : q < 2 ^ 24) (is : n * 65536 + low ≡ q * q) (L : low < 65536) where
   rest_le : low * (q % 65536) ≤ 4294836225
@@ -40,12 +36,6 @@ module _ (q n low : ℕ) (Q : q < 2 ^ 24) (is : n * 65536 + low ≡ q * q) (L : 
 
   pub part_fits : low * (q / 65536) ≤ 16711425
   part_fits = mul-le-mul {n₂ = 65535} {m₂ = 255} (omega arith) (omega arith)
-
-  pub cube_fits : n * q + low * (q / 65536) ≤ 2 ^ 56
-  cube_fits = omega (arith, cube_is, part_le (q * q) q 281474943156225 16777215 (square_le q Q) (omega arith))
-
-  pub high_fits : n ≤ 4294967295
-  high_fits = omega (arith, is, square_le q Q)
 
   module _ (t c : ℕ) (T : t < 2 ^ 50) (C : c ≡ n * q) where
     under : t * 64 ≤ c + low * (q / 65536) + (n + n / 2) → t * 2 ^ 25 < (2 * q + 1) * (2 * q + 1) * (2 * q + 1)

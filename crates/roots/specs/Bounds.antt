@@ -1,7 +1,8 @@
 -- How large a root is at most, and how large at least. Assumes nothing.
 use Rattle.std.specs.Prelude.{◌≡◌, ℕ, zero, suc, ◌+◌, ◌*◌, ◌^◌, ◌<◌, ◌≤◌, Bool, true, false, not, T, ℤ, pos, ◌≢◌, refl, Float}
 use Rattle.std.proofs.Common.{sym, ap, ◌∙◌, subst, inl, inr, le_trans, le_of_eq, le_of_lt, lt_of_lt_of_le, lt_of_le_of_lt, lt_of_not-le, lt_irrefl, le_of_suc-le-suc, mul-pos, mul-le-mul, mul-le-mul_right, le_of_mul-le-mul_right, mul_assoc, mul_right_comm, mul-lt-mul_of_pos_right, lt_of_mul-lt-mul_right, one-mul, mul-one, div-mul-le_self, le-div_iff_mul-le, pow-suc, arith, lit<, pow_pos}
-use Rattle.std.proofs.Math.Nat.{mul-mul-mul_comm, pow-zero, pow-lt-pow_left}
+use Rattle.std.proofs.Math.Nat.{mul-mul-mul_comm, pow-lt-pow_left}
+use borrow.Author.Numbers.{squared}
 use Rattle.std.proofs.Math.Decide.{dec_lt}
 use Rattle.std.proofs.Math.Pow.{pow-lt}
 use Rattle.std.specs.Float.{nan, inf, fin, binary32}
@@ -65,9 +66,6 @@ module _ (s : Bool) (k a p c : ℕ) (v : Float) (K : k ≡ 0 → ⊥) (short : p
 no_zero : (k : ℕ) → k ≡ 2 → k ≢ 0
 no_zero k e z = omega arith
 
-square : (n : ℕ) → n ^ 2 ≡ n * n
-square n = pow-suc n 1 ∙ ap (λ (x : ℕ). x * n) (pow-suc n 0 ∙ ap (λ (x : ℕ). x * n) (pow-zero n) ∙ one-mul n)
-
 -- ---- a size of at most n / d, in units: g of them, with r for the denominator, W for 2 ^ 149
 fraction : (g r x n d L W B : ℕ) → 0 < d → 0 < r → g * r ≤ x * W → x * d ≤ n * r → n * W * L ≤ B * d → g * L ≤ B
 fraction g r x n d L W B D R h k l =
@@ -128,7 +126,7 @@ module _ (n : ℕ) (k : ℤ) (F : T (fits binary32 (fin false (suc n) k))) where
       ∙ mul-mul-mul_comm (suc n * up k) (suc n * up k) (2 ^ 149) (2 ^ 149)
       ∙ ap (λ (z : ℕ). z * z) units_are
       ∙ mul-mul-mul_comm U (down k) U (down k)
-      ∙ ap (λ (z : ℕ). z * (down k * down k)) (sym (square U))
+      ∙ ap (λ (z : ℕ). z * (down k * down k)) (sym (squared U))
 
 -- a root of at most v² is at most v
 pub sqrt_small : (x v : Float) → T (fits binary32 v) → T (positive v) → T (not (under_zero x)) → AtMost (num v * num v) (den v * den v) x → Small v (sqrt_of x)
@@ -169,7 +167,7 @@ reaches x h f = go x (above_of_le (fin false 1 (pos 0)) x tt h) h f
         let N = sqrt_nearest m e in
         let cross : 1 * 1 * down e ≤ suc m * up e * 1 = le→cross (fin false 1 (pos 0)) (fin false (suc m) e) tt a h in
         let g : 2 ^ 149 ≤ mag (suc m) e = (le-div_iff_mul-le (down_pos e)).1 (scaled (down e) (suc m * up e) (2 ^ 149) cross) in
-        let b : (1 * 2 ^ 149) ^ 2 ≤ mag (suc m) e * 2 ^ 149 = le_trans (le_of_eq (square (2 ^ 149))) (mul-le-mul_right (2 ^ 149) g) in
+        let b : (1 * 2 ^ 149) ^ 2 ≤ mag (suc m) e * 2 ^ 149 = le_trans (le_of_eq (squared (2 ^ 149))) (mul-le-mul_right (2 ^ 149) g) in
         subst (λ (v : Float). T (le (fin false 1 (pos 0)) v)) (sym N.value)
         (least N.q N.d (nearest_at_least false 2 (mag (suc m) e * 2 ^ 149) 1 149 (sqrt_of (fin false (suc m) e)) (no_zero 2 refl) (lit< tt) N b))
 
@@ -179,7 +177,7 @@ sqrt_least {x} h f = record { above = tt; reached = reaches x h.reached f }
 
 -- ---- a hypotenuse is at most twice what both sides are at most; a is small enough that twice a is finite
 two_squares : (x y u : ℕ) → x ≤ u → y ≤ u → x * x + y * y ≤ (u * 2) ^ 2
-two_squares x y u h k = le_trans (sum (x * x) (y * y) (u * u) (mul-le-mul h h) (mul-le-mul k k)) (le_of_eq (sym (square (u * 2) ∙ mul-mul-mul_comm u 2 u 2)))
+two_squares x y u h k = le_trans (sum (x * x) (y * y) (u * u) (mul-le-mul h h) (mul-le-mul k k)) (le_of_eq (sym (squared (u * 2) ∙ mul-mul-mul_comm u 2 u 2)))
   where
     sum : (a b c : ℕ) → a ≤ c → b ≤ c → a + b ≤ c * 4
     sum a b c h k = omega arith

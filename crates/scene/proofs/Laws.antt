@@ -17,15 +17,6 @@ few tag =
 pub less_is : {r a n : ℕ} → r < 2 ^ 32 → n ≤ 2 ^ 32 → (r + n) % 2 ^ 32 ≡ a → r ≡ less a n
 less_is {r} {a} {n} fits small wraps = omega arith
 
--- four stores in a row
-pub four_sets : (ws : List ℕ) (at a b c d : ℕ)
-    → set (set (set (set ws at a) (at + 1) b) (at + 2) c) (at + 3) d ≡ sets ws at (a ∷ b ∷ c ∷ d ∷ [])
-four_sets ws at a b c d =
-    let one : at + 1 ≡ suc at = omega arith in
-    let two : at + 2 ≡ suc (suc at) = omega arith in
-    let three : at + 3 ≡ suc (suc (suc at)) = omega arith in
-    rw (one, two, three)
-
 -- ---- the scan
 
 -- after i turns: the first i prefixes, then the lent words; and the sums of the next prefix
@@ -42,11 +33,6 @@ length_prefixes tags (suc n) = rw (length-append, length_prefixes tags n) (omega
 pub begin : (scene : List ℕ) (base : ℕ) (lent : List ℕ) {s : PathMonoid} → s ≡ sums_below 0 0 → Filling scene base lent lent s 0
 unfolding prefixes sums_before sums_below
 begin scene base lent e = record { stored = refl; next = e; room = omega arith }
-
-pub as_long : {scene lent words : List ℕ} {base i : ℕ} {s : PathMonoid} → Filling scene base lent words s i → length words ≡ length lent
-as_long {scene} {lent} {words} {base} {i} {s} f =
-    let r = f.room in
-    rw (f.stored, length-append, length_prefixes, length-drop) (omega arith)
 
 behind : (tags lent : List ℕ) (i : ℕ) → drop (i * 4 + 4) (prefixes tags i ++ drop (i * 4) lent) ≡ drop (suc i * 4) lent
 behind tags lent i =

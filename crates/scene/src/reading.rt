@@ -24,7 +24,8 @@ fn read_f32_point(words: &[u32], at: usize) -> Vec2
     Vec2 { x, y }
 }
 
-// 16 bits as a signed number, which f32 holds exactly.
+// 16 bits as a signed number, which f32 holds exactly. `f32::from(half.cast_signed())` was tried: that its number is this one did
+// not close, since std says it by way of 16 bits and back.
 pub fn i16_of(half: u16) -> f32
     ensures { result ≡ i16_of half }
 {
@@ -96,6 +97,8 @@ fn is_marker(tag_byte: u8, is_stroke: bool) -> bool
     false
 }
 
+// A segment's kind is the number that the tag's low two bits are, as `cubic_of` and `reaches` of the specs take it: an enum would
+// be made into it again in each contract.
 fn point_count(kind: u8) -> u64
     ensures { result ≡ point_count kind }
 {
@@ -193,11 +196,7 @@ pub fn read_transform(
 pub fn is_finite(x: f32) -> bool
     ensures { result ≡ finite x }
 {
-    let infinity = 1.0 / 0.0;
-    if x < infinity {
-        return -infinity < x;
-    }
-    false
+    x.is_finite()
 }
 
 // Whether a transform can be drawn with: else it is refusal 9.

@@ -134,7 +134,7 @@ impl Neg for Vec2 {
     }
 }
 
-// Equal as numbers: +0 equals -0, and a NaN equals nothing.
+// Equal as numbers: +0 equals -0, and a NaN equals nothing. Not derived: the edit that takes the x of the other for its y (must-fail/) needs a body.
 impl PartialEq for Vec2 {
     ghost eq = { eq_of };
 

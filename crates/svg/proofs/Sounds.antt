@@ -1,10 +1,9 @@
 -- Every step keeps what holds of the reader's state. Assumes nothing.
-use mathlib.Core.Path.{◌≡◌, refl, sym, ap, ◌∙◌, subst}
+use mathlib.Core.Path.{◌≡◌, refl}
 use mathlib.Core.Bool.{Bool, true, false}
-use Prim.Native.Nat.{ℕ, suc, ◌+◌, ◌*◌, ◌^◌, ◌≤◌, ◌<◌}
-use native.Mathlib.Nat.{pow-suc}
+use Prim.Native.Nat.{ℕ, ◌+◌, ◌*◌, ◌≤◌, ◌<◌}
 use native.Mathlib.Omega.{arith}
-use borrow.Author.Tests.{ltb-true, eqb-false}
+use borrow.Author.Tests.{ltb-true}
 use lib.Dec.{ltb, eqb}
 use Rattle.svg.specs.declared.steps.Kind.{Kind}
 use Rattle.svg.specs.declared.steps.Kind.TheVariants.{Move, Line, Quad, Cubic}
@@ -17,8 +16,10 @@ use Rattle.svg.specs.declared.steps.State.{State}
 use Rattle.svg.specs.declared.steps.Fault.TheVariants.{TooLong}
 use Rattle.svg.specs.declared.steps.Step.{Step}
 use Rattle.svg.specs.declared.steps.Step.TheVariants.{Go, Lettered, Shut, Bad}
-use Rattle.svg.specs.Language.{pick, by, arity, next}
+use Rattle.svg.specs.Language.{pick, by, arity}
 use Rattle.svg.specs.Machine.{Held, Sound, num, st, digit_of, whole_digit, fraction_digit, first_letter, opening, move, moved, finished}
+use Rattle.svg.specs.First.{arity_pos, next_lt}
+use Rattle.svg.specs.Orderly.{digit_small}
 use Rattle.svg.proofs.Places.{fresh}
 
 abbrev pub SoundStep : Step → Type 0
@@ -27,30 +28,8 @@ SoundStep (Lettered s) = Sound s
 SoundStep (Shut s) = Sound s
 SoundStep (Bad c j) = Unit {0}
 
-pub arity_pos : (k : Kind) → 0 < arity k
-arity_pos Move = omega arith
-arity_pos Line = omega arith
-arity_pos Quad = omega arith
-arity_pos Cubic = omega arith
-
-next_way : (a h : ℕ) (t : Bool) → eqb (h + 1) a ≡ t → 0 < a → h < a → pick t 0 (h + 1) < a
-next_way a h true e p l = p
-next_way a h false e p l = let n = eqb-false (h + 1) a e in omega arith
-
-pub next_lt : (k : Kind) (h : ℕ) → h < arity k → next k h < arity k
-next_lt k h l = next_way (arity k) h (eqb (h + 1) (arity k)) refl (arity_pos k) l
-
 pub finished_sound : (s : State) → Sound s → Sound (finished s)
 finished_sound s S = record { group = next_lt s.kind s.have S.group; held = S.held }
-
--- one digit more
-pub digit_small : (x y n d : ℕ) → y ≡ suc x → n < 10 ^ x → d ≤ 9 → n * 10 + d < 10 ^ y
-digit_small x y n d e h l =
-    let p : 10 ^ y ≡ 10 ^ x * 10 = ap (λ (z : ℕ). 10 ^ z) e ∙ pow-suc 10 x in
-    subst (λ (z : ℕ). n * 10 + d < z) (sym p) (at (10 ^ x) h)
-  where
-    at : (z : ℕ) → n < z → n * 10 + d < z * 10
-    at z h = omega arith
 
 module _ (k : Kind) (h : ℕ) (m : Num) (d : ℕ) (g : h < arity k) (H : Held m) (l : d ≤ 9) where
   whole_way : (t : Bool) → ltb m.before 9 ≡ t → SoundStep (pick t (Go (st InWhole k h (num m.negative (m.n * 10 + d) (m.before + 1) m.behind m.from))) (Bad TooLong m.from))

@@ -23,9 +23,10 @@ use Rattle.svg.specs.Language.{digit_byte, symbol_of, mark_of, symbols}
 use Rattle.svg.specs.Machine.{num, st, moved, ended, whole_ends, fraction_ends, digit_of, Sound}
 use Rattle.svg.specs.Walk.{walk, Left, left, act_by, read_into}
 use Rattle.svg.specs.Stretch.{has_point, before_point, behind_point, in_whole, in_fraction, Grows, Onward, Digits}
+use Rattle.svg.specs.Orderly.{digit_small}
 use Rattle.svg.proofs.Reading.{pick_yes, pick_no, both, symbol_digit, digit_bounds}
 use Rattle.svg.proofs.Places.{no_false}
-use Rattle.svg.proofs.Sounds.{SoundStep, digit_small, moved_sound}
+use Rattle.svg.proofs.Sounds.{SoundStep, moved_sound}
 use Rattle.svg.proofs.Walks.{unread, byte_digit}
 
 -- ---- reading on
@@ -84,10 +85,6 @@ grows_whole k h m = record { quiet = λ n c d. refl; more = λ n c d i l. pick_y
 
 pub grows_fraction : (k : Kind) (h : ℕ) (m : Num) → Grows (in_fraction k h m)
 grows_fraction k h m = record { quiet = λ n c d. refl; more = λ n c d i l. pick_yes _ _ _ (lt-ltb c 9 l) }
-
-pub digits_none : (text : List ℕ) (i n c : ℕ) → i ≤ length text → c ≤ 9 → n < 10 ^ (c + 9) → Digits text i n c i n c
-digits_none text i n c l f s =
-    record { on = omega arith; within = l; few = f; small = s; first = λ x. absurd (omega arith); run = λ f G S. onward_none l S }
 
 module _ {text : List ℕ} {i₀ n₀ c₀ i n c : ℕ} (D : Digits text i₀ n₀ c₀ i n c) (l : i < length text) (b : digit_byte (get_or text i 0) ≡ true) (few : c < 9) where
   abbrev digit : ℕ

@@ -21,7 +21,8 @@ use Rattle.svg.specs.Machine.{Sound as SoundState}
 use Rattle.svg.specs.Meaning.{word_of}
 use Rattle.svg.specs.Hands.{command_by, counted, onward, closed}
 use Rattle.svg.specs.Walk.{walk, Way, Left, left, way_of, settled, number_by, act_by, step_by, then_step, one_by, Sound}
-use Rattle.svg.proofs.Sounds.{SoundStep, arity_pos, finished_sound, moved_sound}
+use Rattle.svg.specs.First.{arity_pos}
+use Rattle.svg.proofs.Sounds.{SoundStep, finished_sound, moved_sound}
 
 abbrev pub SoundWay : Way → Type 0
 SoundWay (Ok w) = Sound w

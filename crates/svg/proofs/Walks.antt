@@ -190,19 +190,6 @@ module _ {text : List ℕ} {pen₀ : Pen} {tags₀ points₀ : List ℕ} {pen : 
             ∙ h.rest;
       }
 
-  pub less_number : (v : Walk) (q : Way) (pen' : Pen) (ts ps : List ℕ) (y : Symbol) → ended w.state.place y ≡ true → left q pen' ts ps ≡ number_by w i pen tags points → q ≡ Ok v → to_go text v i < to_go text w i
-  less_number v q pen' ts ps y e o f =
-      let k : left (Ok v) pen' ts ps ≡ number_by w i pen tags points = ap (λ (q : Way). left q pen' ts ps) (sym f) ∙ o in
-      let a : at_number v.state.place ≡ 0 = ap (λ (s : State). at_number s.place) (number_state w v i pen tags points pen' ts ps k) in
-      omega (arith, a, ended_in w.state.place y e)
-
-  -- a byte that is read; the equations name the state and the reader behind it
-  pub less_go : (s t : State) (j : ℕ) → Onward text s (i + 1) t j → i < length text → to_go text (walk t w.hand) j < to_go text w i
-  less_go s t j o l = let on = o.on in omega (arith, at_most (in_number t.place))
-
-  pub less_on : (v : Walk) (q : Way) → q ≡ Ok v → i < length text → to_go text v (i + 1) < to_go text w i
-  less_on v q e l = omega (arith, at_most (in_number v.state.place))
-
   pub over_number : (r : Refusal) (q : Way) (pen' : Pen) (ts ps : List ℕ) (y : Symbol) → i < length text → y ≡ symbol_of (get_or text i 0) → ended w.state.place y ≡ true → left q pen' ts ps ≡ number_by w i pen tags points → q ≡ Err r
       → told (Err r) pen' ts ps ≡ import_of text pen₀ tags₀ points₀
   over_number r q pen' ts ps y l e n o f =

@@ -108,7 +108,7 @@ goes AtClose k h m g l = ([], λ i. refl)
 
 -- ---- every step keeps it
 
-arity_pos : (k : Kind) → 0 < arity k
+pub arity_pos : (k : Kind) → 0 < arity k
 arity_pos Move = omega arith
 arity_pos Line = omega arith
 arity_pos Quad = omega arith
@@ -117,6 +117,9 @@ arity_pos Cubic = omega arith
 next_way : (a h : ℕ) (t : Bool) → eqb (h + 1) a ≡ t → 0 < a → h < a → pick t 0 (h + 1) < a
 next_way a h true e p l = p
 next_way a h false e p l = let n = eqb-false (h + 1) a e in omega arith
+
+pub next_lt : (k : Kind) (h : ℕ) → h < arity k → next k h < arity k
+next_lt k h l = next_way (arity k) h (eqb (h + 1) (arity k)) refl (arity_pos k) l
 
 pick_live : (t : Bool) (a b : Step) → LiveStep a → LiveStep b → LiveStep (pick t a b)
 pick_live true a b A B = A
@@ -174,7 +177,7 @@ either_live false a b A B = B
 turn_live : (t : Turn) (i : ℕ) (y : Symbol) → LiveTurn t → LiveTurn (turn_of t i y)
 turn_live (Going s) i y l =
     either_live (ended s.place y) (settle (moved (finished s) i y)) (settle (moved s i y))
-    (settle_live (moved (finished s) i y) (move_live AtGap s.kind (next s.kind s.have) s.num i y (next_way (arity s.kind) s.have (eqb (s.have + 1) (arity s.kind)) refl (arity_pos s.kind) l.0) tt))
+    (settle_live (moved (finished s) i y) (move_live AtGap s.kind (next s.kind s.have) s.num i y (next_lt s.kind s.have l.0) tt))
     (settle_live (moved s i y) (move_live s.place s.kind s.have s.num i y l.0 l.1))
 turn_live (Stopped c j) i y l = tt
 

@@ -29,6 +29,15 @@ not_both b e f = let z : ◌≡◌ {A = Bool} true false = sym e ∙ f in let y 
 
 -- ---- digits
 
+-- one digit more
+pub digit_small : (x y n d : ℕ) → y ≡ suc x → n < 10 ^ x → d ≤ 9 → n * 10 + d < 10 ^ y
+digit_small x y n d e h l =
+    let p : 10 ^ y ≡ 10 ^ x * 10 = ap (λ (z : ℕ). 10 ^ z) e ∙ pow-suc 10 x in
+    subst (λ (z : ℕ). n * 10 + d < z) (sym p) (at (10 ^ x) h)
+  where
+    at : (z : ℕ) → n < z → n * 10 + d < z * 10
+    at z h = omega arith
+
 abbrev Digits : List Symbol → Type 0
 Digits [] = Unit {0}
 Digits (y ∷ ys) = (digit_of y ≤ 9) × Digits ys
@@ -104,14 +113,6 @@ module _ (b : Bool) (k : Kind) (h : ℕ) where
 
   shuts : (m : Num) → Held m → StepInv (Shut (st AtClose k 0 m))
   shuts m H = record { kind = refl; have = refl; inv = record { held = H; place = refl } }
-
-  digit_small : (x y n d : ℕ) → y ≡ suc x → n < 10 ^ x → d ≤ 9 → n * 10 + d < 10 ^ y
-  digit_small x y n d e h l =
-      let p : 10 ^ y ≡ 10 ^ x * 10 = ap (λ (z : ℕ). 10 ^ z) e ∙ pow-suc 10 x in
-      subst (λ (z : ℕ). n * 10 + d < z) (sym p) (at (10 ^ x) h)
-    where
-      at : (z : ℕ) → n < z → n * 10 + d < z * 10
-      at z h = omega arith
 
   on : (t : Bool) (x y : Step) → (t ≡ true → StepInv x) → (t ≡ false → StepInv y) → StepInv (pick t x y)
   on true x y f g = f refl

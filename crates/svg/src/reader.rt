@@ -192,14 +192,15 @@ pub fn read(text: &[u8], pen: &mut Pen, tags: &mut [u8], points: &mut [u32]) -> 
 }
 
 // As C is told it, where an accepted text is 0 and 0.
-impl From<Refusal> for Report {
-    ghost from_gives = { λ e t. t ≡ report_of (Err e) };
+impl From<Result<(), Refusal>> for Report {
+    ghost from_gives = { λ a t. t ≡ report_of a };
 
     #[tactic(auto, unfolding(crate::specs::Import::report_of))]
-    fn from(refusal: Refusal) -> Report {
-        let (number, at) = match refusal {
-            Refusal::Faulty(fault, at) => (fault.number(), at),
-            Refusal::Undrawn(fault, at) => (fault.number(), at),
+    fn from(answer: Result<(), Refusal>) -> Report {
+        let (number, at) = match answer {
+            Ok(()) => (0, 0),
+            Err(Refusal::Faulty(fault, at)) => (fault.number(), at),
+            Err(Refusal::Undrawn(fault, at)) => (fault.number(), at),
         };
         Report { number, at }
     }

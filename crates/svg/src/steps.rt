@@ -167,7 +167,7 @@ fn one_more(s: State, place: Place, m: Num, count: u64, d: u64) -> Step
     Step::Bad(Fault::TooLong, m.from)
 }
 
-// A digit before the point.
+// A digit before the point, and behind it: each counts in its own field and names its own place, which is all that they have apart.
 #[tactic(auto, using(crate::proofs::Reading::held_room))]
 fn whole_digit(s: State, d: u64) -> Step
     requires { Held s.num × (d ≤ 9) }

@@ -4,12 +4,12 @@ use Rattle.exports.specs.Pen.{spot_of}
 use Rattle.exports.proofs.Pens.{too_short, answered}
 use Rattle.exports.proofs.pen.hinth_line.Goals as goal
 
-pub returns-then-pen-lt7 : goal.returns-then-pen-lt7
-returns-then-pen-lt7 c =
+pub returns-in_default : goal.returns-in_default
+returns-in_default c =
     let a = c.args in
-    too_short a.pen.now (draw (line (spot_of a.x a.y))) a.tags.now a.points.now _ c.if-pen-lt7.true c.number.ensures
+    too_short a.pen.now (draw (line (spot_of a.x a.y))) a.tags.now a.points.now _ c.in_default.ensures.cases c.number.ensures
 
 pub returns : goal.returns
 returns c =
     let a = c.args in
-    answered a.pen.now (draw (line (spot_of a.x a.y))) a.tags.now a.points.now c.line_to-drew.result c.read_pen.result _ _ _ _ _ c.if-pen-lt7.false c.read_pen.ensures (rw c.spot_of.ensures) c.line_to-drew.ensures c.keep_pen.ensures
+    answered a.pen.now (draw (line (spot_of a.x a.y))) a.tags.now a.points.now c.in-Some.words.now c.line_to-drew.result c.read_pen.result _ _ _ _ _ c.in-Some.ensures.cases c.read_pen.ensures (rw c.spot_of.ensures) c.line_to-drew.ensures c.keep_pen.ensures

@@ -1,12 +1,15 @@
 -- `scene::reading::is_finite` meets its contract. Assumes nothing.
-use lib.Ieee.{of_bits, div, neg}
-use Rattle.scene.proofs.Finite.{above_and_below, not_below}
+use mathlib.Core.Path.{◌≡◌, refl, ◌∙◌}
+use lib.Ieee.{Float, nan, inf, fin}
+use lib.Ieee.Scale.{finite}
+use Rattle.std.specs.Float.{float_is_finite}
 use Rattle.scene.proofs.reading.is_finite.Goals as goal
 
-pub returns-then-x-infinity : goal.returns-then-x-infinity
-unfolding of_bits div neg
-returns-then-x-infinity c = above_and_below c.args.x c.if-x-infinity.true
+same : (x : Float) → float_is_finite x ≡ finite x
+unfolding float_is_finite
+same nan = refl
+same (inf s) = refl
+same (fin s m e) = refl
 
 pub returns : goal.returns
-unfolding of_bits div
-returns c = not_below c.args.x c.if-x-infinity.false
+returns c = c.is_finite.ensures.value ∙ same c.args.x
