@@ -107,13 +107,12 @@ pub(crate) fn put_all<S: Sink>(
         last: None,
     };
     for i in 0..list.len() / 6 {
-        // Passed over here, where nothing is handed on: to hand on what is reached would cost more than the test.
-        if word_at(list, i, 0) != path {
-            continue;
-        }
-        match put_record(list, path, i, here, table, sink) {
-            Ok(next) => here = next,
-            Err(stop) => return Err(stop.in_record(i)),
+        // Asked here, so that nothing is handed on for the others: to hand on what is reached would cost more than the test.
+        if word_at(list, i, 0) == path {
+            match put_record(list, path, i, here, table, sink) {
+                Ok(next) => here = next,
+                Err(stop) => return Err(stop.in_record(i)),
+            }
         }
     }
     Ok(here.at)
