@@ -1,6 +1,6 @@
 // A cubic, or the curve at an offset from it, as lines: it is cut into ranges that are each near a spiral, and a range
 // is 1 to 100 lines.
-#![tactic(auto, unfolding(crate::specs::Curve::line_of, crate::specs::Curve::range_of, crate::specs::Curve::range_end, crate::specs::Curve::part, crate::specs::Curve::is_point, crate::specs::Curve::side_events, crate::specs::Curve::device_side, crate::specs::Curve::local_side, crate::specs::Curve::euler_events, drawing::proofs::Floats::of_bits, drawing::proofs::Floats::round, drawing::proofs::Floats::div))]
+#![tactic(auto, using(drawing::specs::PageLaws::stopped), unfolding(crate::specs::Curve::line_of, crate::specs::Curve::range_of, crate::specs::Curve::range_end, crate::specs::Curve::part, crate::specs::Curve::is_point, crate::specs::Curve::side_events, crate::specs::Curve::device_side, crate::specs::Curve::local_side, crate::specs::Curve::euler_events, drawing::proofs::Floats::of_bits, drawing::proofs::Floats::round, drawing::proofs::Floats::div))]
 
 mod fit;
 mod straight;

@@ -63,7 +63,11 @@ then {ws} {ink = ink} {xs = xs} {ys = ys} h k = drew (exact k ∙ ap (λ (s : Pa
 pub passed : {A : Type 0} {r : Result A Stopped} {s : Stopped} → IsErrAnd r (λ (e : Stopped). e ≡ s) → r ≡ Err s
 passed {r = r} h = let p = err_from_is_err_and r h in p.1 ∙ ap (λ (e : Stopped). Err e) p.2
 
--- what is handed a stop draws nothing and gives it back
+-- what is drawn with an answer is drawn with what is handed in, where they are one
+pub handed : {ws ws' : List ℕ} {ink ink' r : Ink} {es : List Event} → ink ≡ ink' → Drew ws ink' es ws' r → Drew ws ink es ws' r
+handed e h = rw e h
+
+-- what stopped before draws nothing and gives the stop back
 pub stopped : {ws : List ℕ} {r : Ink} {s : Stopped} (es : List Event) → IsErrAnd r (λ (e : Stopped). e ≡ s) → Drew ws (Err s) es ws r
 stopped {ws} {s = s} es k = drew (ap (page ws) (passed k) ∙ absorbs ws s es)
 

@@ -1,5 +1,5 @@
 // Arcs, as chords of a fixed turn.
-#![tactic(auto, unfolding(crate::specs::Arc::arc_radius, crate::specs::Arc::arc_step, crate::specs::Arc::arc_count, crate::specs::Arc::arc_turn, crate::specs::Arc::arc_of, crate::proofs::Floats::of_bits, crate::proofs::Floats::round))]
+#![tactic(auto, using(crate::specs::PageLaws::stopped), unfolding(crate::specs::Arc::arc_radius, crate::specs::Arc::arc_step, crate::specs::Arc::arc_count, crate::specs::Arc::arc_turn, crate::specs::Arc::arc_of, crate::proofs::Floats::of_bits, crate::proofs::Floats::round))]
 
 ghost use Rattle.std.specs.Prelude.{◌≡◌, Ok};
 ghost use Rattle.drawing.specs.Page.{Drew};

@@ -1,5 +1,5 @@
 // A line is stored as six words behind those stored before, until one is refused.
-#![tactic(auto, unfolding(crate::specs::Page::lesser_of, crate::specs::Page::greater_of, crate::specs::Page::empty_reach, crate::specs::Page::reach_with, crate::specs::Page::whole_box, crate::specs::Page::pen_of, crate::specs::Page::dried_of, crate::specs::Page::stop_of, crate::specs::Sheet::empty_box))]
+#![tactic(auto, using(crate::specs::PageLaws::stopped, crate::proofs::Draw::count_stops, crate::proofs::Draw::join_stops), unfolding(crate::specs::Page::lesser_of, crate::specs::Page::greater_of, crate::specs::Page::empty_reach, crate::specs::Page::reach_with, crate::specs::Page::whole_box, crate::specs::Page::pen_of, crate::specs::Page::dried_of, crate::specs::Page::stop_of, crate::specs::Sheet::empty_box))]
 
 ghost use Rattle.std.specs.Prelude.{◌≡◌, List, [], ◌∷◌, ℕ, ◌+◌, ◌<◌, length};
 ghost use Rattle.std.proofs.lemmas.List.Edits.{sets};

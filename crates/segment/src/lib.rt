@@ -1,5 +1,5 @@
 // What a segment draws: a fill, a stroke, or the cap where a stroke starts.
-#![tactic(auto, unfolding(crate::specs::Segment::quarter, crate::specs::Segment::steady_of, crate::specs::Segment::neighbor_of, crate::specs::Segment::tangents_of, crate::specs::Segment::edges_of, crate::specs::Segment::sides_events, crate::specs::Segment::end_events, crate::specs::Segment::stroke_events, crate::specs::Segment::start_cap_events, crate::specs::Segment::fill_events, crate::specs::Segment::shape_events, drawing::proofs::Floats::of_bits, drawing::proofs::Floats::round))]
+#![tactic(auto, using(drawing::specs::PageLaws::nothing), unfolding(crate::specs::Segment::quarter, crate::specs::Segment::steady_of, crate::specs::Segment::neighbor_of, crate::specs::Segment::tangents_of, crate::specs::Segment::edges_of, crate::specs::Segment::sides_events, crate::specs::Segment::end_events, crate::specs::Segment::stroke_events, crate::specs::Segment::start_cap_events, crate::specs::Segment::fill_events, crate::specs::Segment::shape_events, drawing::proofs::Floats::of_bits, drawing::proofs::Floats::round))]
 
 ghost use Rattle.std.specs.Prelude.{◌≡◌};
 ghost use Rattle.drawing.specs.Cubic.{point};
