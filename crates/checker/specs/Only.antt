@@ -3,7 +3,7 @@ use Rattle.std.specs.Prelude.{Result, Ok, Err, ℕ, ◌<◌, ◌≡◌, refl, Bo
 use Rattle.std.proofs.Common.{sym, ap, ◌∙◌, true≢false, arith}
 use Rattle.laws.specs.Only.{Only, determined}
 use Rattle.records.specs.Record.{count}
-use Rattle.checker.specs.Verdict.{SoundList, uneven_at, First, Answers, told_of}
+use Rattle.checker.specs.Verdict.{SoundList, uneven_at, First, Answers, number_of, told_of}
 use Rattle.checker.specs.Laws.{balanced_even}
 use Rattle.checker.specs.declared.Verdict.{Verdict}
 use Rattle.checker.specs.declared.Verdict.TheVariants.{Sound, BadNumber, Unbalanced}
@@ -50,6 +50,9 @@ check_only ws (Err Leftover) (Ok (BadNumber j)) a b = absurd (a.1 b.0.whole)
 check_only ws (Err Leftover) (Ok (Unbalanced j)) a b = absurd (a.1 b.0.whole)
 check_only ws (Err Leftover) (Err TooMany) a b = absurd (let f = a.0 in omega arith)
 check_only ws (Err Leftover) (Err Leftover) a b = refl
+
+pub number_only : (e : CheckError) → Only (λ r. r ≡ number_of e)
+number_only e = determined (number_of e)
 
 pub told_only : (v : Result Verdict CheckError) → Only (λ r. r ≡ told_of v)
 told_only v = determined (told_of v)

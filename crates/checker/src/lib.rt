@@ -46,7 +46,9 @@ impl From<Result<Verdict, CheckError>> for Told {
     ghost from_gives = { λ a t. t ≡ told_of a };
 
     #[tactic(auto, unfolding(crate::specs::Verdict::told_of))]
-    fn from(answer: Result<Verdict, CheckError>) -> Told {
+    fn from(answer: Result<Verdict, CheckError>) -> Told
+        ensures { result ≡ told_of answer }
+    {
         match answer {
             Ok(v) => v.told(),
             Err(e) => Told {

@@ -2,11 +2,10 @@
 use Rattle.std.specs.Prelude.{ℕ, List, Float}
 use Rattle.laws.specs.Only.{Only}
 use Rattle.spiral.specs.declared.util.Vec2.{Vec2}
-use Rattle.drawing.specs.Page.{Page, Drew}
+use Rattle.drawing.specs.Page.{Ink, Page, Drew}
 use Rattle.drawing.specs.Only.{drew_only}
-use Rattle.drawing.specs.declared.line.Nib.{Nib}
 use Rattle.curve.specs.Curve.{euler_events}
 
-pub flatten_euler_only : (ws : List ℕ) (nib : Nib) (cubic : List Vec2) (z : List Float) (offset : Float) (start end : Vec2)
-    → Only (λ (s : Page). Drew ws nib (euler_events cubic z offset start end) s.words s.ink)
-flatten_euler_only ws nib cubic z offset start end = drew_only ws nib (euler_events cubic z offset start end)
+pub flatten_euler_only : (ws : List ℕ) (ink : Ink) (cubic : List Vec2) (z : List Float) (offset : Float) (start end : Vec2)
+    → Only (λ (s : Page). Drew ws ink (euler_events cubic z offset start end) s.words s.ink)
+flatten_euler_only ws ink cubic z offset start end = drew_only ws ink (euler_events cubic z offset start end)

@@ -1,18 +1,18 @@
 // A cubic, or the curve at an offset from it, as lines: it is cut into ranges that are each near a spiral, and a range
 // is 1 to 100 lines.
-#![tactic(auto, unfolding(crate::specs::Curve::line_of, crate::specs::Curve::range_of, crate::specs::Curve::range_end, crate::specs::Curve::part, crate::specs::Curve::is_point, crate::specs::Curve::side_events, crate::specs::Curve::device_side, crate::specs::Curve::local_side, crate::specs::Curve::euler_events, drawing::proofs::Floats::of_bits, drawing::proofs::Floats::round, drawing::proofs::Floats::div))]
+#![tactic(auto, using(drawing::specs::PageLaws::stopped), unfolding(crate::specs::Curve::line_of, crate::specs::Curve::range_of, crate::specs::Curve::range_end, crate::specs::Curve::part, crate::specs::Curve::is_point, crate::specs::Curve::side_events, crate::specs::Curve::device_side, crate::specs::Curve::local_side, crate::specs::Curve::euler_events, drawing::proofs::Floats::of_bits, drawing::proofs::Floats::round, drawing::proofs::Floats::div))]
 
 mod fit;
 mod straight;
 
-ghost use Rattle.std.specs.Prelude.{◌≡◌, ◌||◌, ◌-◌};
+ghost use Rattle.std.specs.Prelude.{◌≡◌, ◌||◌, ◌-◌, Ok};
 ghost use mathlib.Core.List.{[], ◌∷◌, flatten};
 ghost use Rattle.std.specs.Float.Ieee.{le};
 ghost use Rattle.laws.specs.Binary32.{◌⊗◌, dec};
 ghost use Rattle.drawing.specs.Page.{Drew};
 ghost use Rattle.curve.specs.Curve.{line_of, lines_of, range_of, range_end, part, front_of, walk, is_point, side_events, device_side, local_side, euler_events};
 
-use drawing::line::{Nib, Stopped, no_count, output_line_with_transform};
+use drawing::line::{Ink, Nib, no_count, output_line_with_transform};
 use fit::{Fit, Tip, first_tip, fit_range, params_of, place, tip_at};
 use spiral::euler::TOL;
 use spiral::util::{Vec2, apply, identity};
@@ -32,14 +32,14 @@ struct Side {
 }
 
 // A line of a side, which runs back unless the offset is 0 or more.
-fn side_line(lines: &mut [u32], nib: Nib, side: Side, p: Vec2, q: Vec2) -> Result<Nib, Stopped>
-    ensures { Drew lines.old nib (line_of side p q ∷ []) lines.new result }
+fn side_line(lines: &mut [u32], ink: Ink, side: Side, p: Vec2, q: Vec2) -> Ink
+    ensures { Drew lines.old ink (line_of side p q ∷ []) lines.new result }
 {
     let transform = side.transform;
     if side.offset >= 0.0 {
-        return output_line_with_transform(lines, nib, p, q, transform);
+        return output_line_with_transform(lines, ink, p, q, transform);
     }
-    output_line_with_transform(lines, nib, q, p, transform)
+    output_line_with_transform(lines, ink, q, p, transform)
 }
 
 // The n lines of a range: all but the last end along the spiral.
@@ -51,32 +51,25 @@ fn range_lines(
     n: u32,
     at: Vec2,
     end: Vec2,
-) -> Result<Nib, Stopped>
-    ensures { Drew lines.old nib (lines_of side fit (n - 1) 1 at end) lines.new result }
+) -> Ink
+    ensures { Drew lines.old (Ok nib) (lines_of side fit (n - 1) 1 at end) lines.new result }
 {
     let mut nib = nib;
     let mut lp0 = at;
     for i in 1..n {
         let lp1 = place(fit, i);
-        nib = side_line(lines, nib, side, lp0, lp1)?;
+        nib = side_line(lines, Ok(nib), side, lp0, lp1)?;
         lp0 = lp1;
     }
-    side_line(lines, nib, side, lp0, end)
+    side_line(lines, Ok(nib), side, lp0, end)
 }
 
-fn draw_range(
-    lines: &mut [u32],
-    nib: Nib,
-    side: Side,
-    fit: Fit,
-    at: Vec2,
-    end: Vec2,
-) -> Result<Nib, Stopped>
-    ensures { Drew lines.old nib (range_of side fit at end) lines.new result }
+fn draw_range(lines: &mut [u32], nib: Nib, side: Side, fit: Fit, at: Vec2, end: Vec2) -> Ink
+    ensures { Drew lines.old (Ok nib) (range_of side fit at end) lines.new result }
 {
     let n = fit.n;
     if maths::is_nan(n) {
-        return no_count(nib);
+        return no_count(Ok(nib));
     }
     range_lines(lines, nib, side, fit, maths::to_u32(n), at, end)
 }
@@ -100,8 +93,8 @@ fn accepts(err: f32, scale: f32, dt: f32) -> bool
 
 // The ranges of a side, from the tip where the first one starts. A range starts at t0_u * dt and is dt long, and dt does
 // not fall below 1/65536.
-fn walk_side(lines: &mut [u32], nib: Nib, side: Side, first: Tip) -> Result<Nib, Stopped>
-    ensures { Drew lines.old nib (flatten (walk side 16 0 (front_of first side.start)).ranges) lines.new result }
+fn walk_side(lines: &mut [u32], nib: Nib, side: Side, first: Tip) -> Ink
+    ensures { Drew lines.old (Ok nib) (flatten (walk side 16 0 (front_of first side.start)).ranges) lines.new result }
 {
     let points = side.points;
     let mut nib = nib;
@@ -142,8 +135,8 @@ fn is_point(points: [Vec2; 4]) -> bool
     p0 == points[1] && p0 == points[2] && p0 == points[3]
 }
 
-fn draw_side(lines: &mut [u32], nib: Nib, side: Side) -> Result<Nib, Stopped>
-    ensures { Drew lines.old nib (side_events side) lines.new result }
+fn draw_side(lines: &mut [u32], nib: Nib, side: Side) -> Ink
+    ensures { Drew lines.old (Ok nib) (side_events side) lines.new result }
 {
     let points = side.points;
     if is_point(points) {
@@ -151,7 +144,7 @@ fn draw_side(lines: &mut [u32], nib: Nib, side: Side) -> Result<Nib, Stopped>
     }
     let first = first_tip(points);
     if looks_straight(points) && is_line(first, tip_at(points, 1.0), side.offset, side.scale) {
-        return side_line(lines, nib, side, side.start, side.end);
+        return side_line(lines, Ok(nib), side, side.start, side.end);
     }
     walk_side(lines, nib, side, first)
 }
@@ -197,15 +190,16 @@ fn local_side(cubic: [Vec2; 4], transform: [f32; 6], offset: f32, start: Vec2, e
 // Offset 0 or -0 is drawn in device space.
 pub fn flatten_euler(
     lines: &mut [u32],
-    nib: Nib,
+    ink: Ink,
     cubic: [Vec2; 4],
     transform: [f32; 6],
     offset: f32,
     start: Vec2,
     end: Vec2,
-) -> Result<Nib, Stopped>
-    ensures { Drew lines.old nib (euler_events cubic transform offset start end) lines.new result }
+) -> Ink
+    ensures { Drew lines.old ink (euler_events cubic transform offset start end) lines.new result }
 {
+    let nib = ink?;
     if offset == 0.0 {
         let side = device_side(cubic, transform, offset);
         return draw_side(lines, nib, side);

@@ -1,8 +1,8 @@
 -- The words of the sheet, one by one, and a loop that writes them. Assumes nothing.
 use Prim.Native.Nat.{ℕ, zero, suc, ◌+◌, ◌^◌, ◌<◌, ◌≤◌}
-use Rattle.std.specs.Prelude.{◌≡◌, Bool, true, false, cond, length, take, drop, set, Option, Some, None, Ok, Err}
+use Rattle.std.specs.Prelude.{◌≡◌, ◌⊎◌, Bool, true, false, cond, length, take, drop, set, Option, Some, None, Ok, Err}
 use Rattle.std.proofs.Math.Path.{refl, sym, ap, subst}
-use Rattle.std.proofs.Common.{◌∙◌, add-one, length-drop, take-suc, drop-cons, take_all, length-take-le}
+use Rattle.std.proofs.Common.{◌∙◌, inl, inr, add-one, length-drop, take-suc, drop-cons, take_all, length-take-le}
 use mathlib.Core.List.{List, [], ◌∷◌, ◌++◌, append_assoc}
 use native.Mathlib.Omega.{arith}
 use Rattle.std.proofs.Math.Decide.{ℕ_discrete, dec_lt}
@@ -143,6 +143,22 @@ module _ (n m : ℕ) where
   unfolding size_of
   many_points l = omega arith
 
+  -- what is told, where it is not 0
+  pub told_is : (size : ℕ) → size ≡ size_told n m → (size ≡ 0 → ⊥) → (size ≡ size_of n m) × (size < 2 ^ 31)
+  told_is size e ne =
+      elim (dec_lt (size_of n m) (2 ^ 31)) [
+        | yes l ↦ let is = e ∙ sym (told_small l) in (is, omega (arith, is, l))
+        | no g ↦ absurd (ne (e ∙ sym (told_large (omega (arith, g)))))
+      ]
+
+  told_none : (size : ℕ) → size ≡ size_told n m → size ≡ 0 → 2 ^ 31 ≤ size_of n m
+  unfolding size_of
+  told_none size e z =
+      elim (dec_lt (size_of n m) (2 ^ 31)) [
+        | yes l ↦ let is = sym z ∙ e ∙ sym (told_small l) in absurd (omega (arith, is))
+        | no g ↦ omega (arith, g)
+      ]
+
   pub small_some : (size : ℕ) → small_size n m ≡ Some size → (size ≡ size_of n m) × (size < 2 ^ 31)
   unfolding small_size
   small_some size e =
@@ -167,6 +183,12 @@ module _ (n m : ℕ) where
   unfolding fits
   no_room_lem room size e l h = rw (lt-ltb (size_of n m) (2 ^ 31) (omega (arith, e, l)), lt-leb (size_of n m) room (omega (arith, e, h)))
 
+  no_room_told : (room size : ℕ) → size ≡ size_told n m → (size ≡ 0) ⊎ (room < size) → fits n m room ≡ false
+  no_room_told room size e (inl z) = none_fits room (told_none size e z)
+  no_room_told room size e (inr l) =
+      let is = told_is size e (λ z. absurd (omega (arith, l, z))) in
+      no_room_lem room size is.0 is.1 l
+
   has_room_lem : (room size : ℕ) → size ≡ size_of n m → size < 2 ^ 31 → size ≤ room → fits n m room ≡ true
   unfolding fits
   has_room_lem room size e l h = rw (lt-ltb (size_of n m) (2 ^ 31) (omega (arith, e, l)), le-leb (size_of n m) room (omega (arith, e, h)))
@@ -174,13 +196,18 @@ module _ (n m : ℕ) where
 -- ---- the answer
 
 module _ (drawn points six scene : List ℕ) (size : ℕ) where
+  -- of a sheet that is not laid, by what is told: 0 where it has 2^31 words or more
+  pub no_sheet_lem : size ≡ size_told (length drawn) (length points) → (size ≡ 0) ⊎ (length scene < size) → laid (Err size) scene ≡ lay_of drawn points six scene
+  unfolding lay_of
+  no_sheet_lem e h = rw (no_room_told (length drawn) (length points) (length scene) size e h, e)
+
   pub too_large : 2 ^ 31 ≤ size_of (length drawn) (length points) → laid (Err 0) scene ≡ lay_of drawn points six scene
   unfolding lay_of
   too_large h = rw (none_fits (length drawn) (length points) (length scene) h, told_large (length drawn) (length points) h)
 
-  pub no_sheet_lem : size ≡ size_of (length drawn) (length points) → size < 2 ^ 31 → length scene < size → laid (Err size) scene ≡ lay_of drawn points six scene
+  pub too_little_room : size ≡ size_of (length drawn) (length points) → size < 2 ^ 31 → length scene < size → laid (Err size) scene ≡ lay_of drawn points six scene
   unfolding lay_of
-  no_sheet_lem e l h = rw (no_room_lem (length drawn) (length points) (length scene) size e l h, e, told_small (length drawn) (length points) (omega (arith, e, l)))
+  too_little_room e l h = rw (no_room_lem (length drawn) (length points) (length scene) size e l h, e, told_small (length drawn) (length points) (omega (arith, e, l)))
 
   pub a_sheet : size ≡ size_of (length drawn) (length points) → size < 2 ^ 31 → size ≤ length scene
       → laid (Ok (layout_of (length drawn) (length points))) (sheet_of drawn points six ++ drop size scene) ≡ lay_of drawn points six scene

@@ -68,7 +68,9 @@ impl From<Result<usize, Refused>> for Report {
     ghost from_gives = { λ a t. t ≡ report_of a };
 
     #[tactic(auto, unfolding(crate::specs::Stages::report_of))]
-    fn from(answer: Result<usize, Refused>) -> Report {
+    fn from(answer: Result<usize, Refused>) -> Report
+        ensures { result ≡ report_of answer }
+    {
         match answer {
             Ok(bytes) => Report {
                 number: 0,

@@ -46,28 +46,28 @@ unfolding has_room
 room ws n h k = rw (lt-ltb n 4294967295 h, lt-ltb n (length ws / 6) k)
 
 module _ {ws : List ℕ} {nib : Nib} {p q : Vec2} where
-  pub nan_first : has_nan p ≡ true → {s : Stopped} → s ≡ stop_of nib (NotNumber Start) → Drew ws nib (line p q ∷ []) ws (Err s)
+  pub nan_first : has_nan p ≡ true → {s : Stopped} → s ≡ stop_of nib (NotNumber Start) → Drew ws (Ok nib) (line p q ∷ []) ws (Err s)
   unfolding ink_all ink_event ink_on inked stop_of
   nan_first h e = drew (rw (h, e))
 
-  pub nan_second : has_nan p ≡ false → has_nan q ≡ true → {s : Stopped} → s ≡ stop_of nib (NotNumber End) → Drew ws nib (line p q ∷ []) ws (Err s)
+  pub nan_second : has_nan p ≡ false → has_nan q ≡ true → {s : Stopped} → s ≡ stop_of nib (NotNumber End) → Drew ws (Ok nib) (line p q ∷ []) ws (Err s)
   unfolding ink_all ink_event ink_on inked stop_of
   nan_second h i e = drew (rw (h, i, e))
 
-  pub full : has_nan p ≡ false → has_nan q ≡ false → has_room ws nib.count ≡ false → {s : Stopped} → s ≡ stop_of nib NoRoom → Drew ws nib (line p q ∷ []) ws (Err s)
+  pub full : has_nan p ≡ false → has_nan q ≡ false → has_room ws nib.count ≡ false → {s : Stopped} → s ≡ stop_of nib NoRoom → Drew ws (Ok nib) (line p q ∷ []) ws (Err s)
   unfolding ink_all ink_event ink_on inked stop_of
   full h i k e = drew (rw (h, i, k, e))
 
   pub goes_on_lem : {ws' : List ℕ} {b : Reach} → has_nan p ≡ false → has_nan q ≡ false → has_room ws nib.count ≡ true → ws' ≡ sets ws (nib.count * 6) (record_of nib.path nib.tag p q) → b ≡ reach_with (reach_with nib.reach p) q
-      → Drew ws nib (line p q ∷ []) ws' (Ok (record { count = nib.count + 1; tag = nib.tag; path = nib.path; reach = b }))
+      → Drew ws (Ok nib) (line p q ∷ []) ws' (Ok (record { count = nib.count + 1; tag = nib.tag; path = nib.path; reach = b }))
   unfolding ink_all ink_event ink_on inked
   goes_on_lem h i k w e = drew (rw (h, i, k, w, e))
 
 module _ (ws : List ℕ) {nib : Nib} {s : Stopped} where
-  pub count_stops : s ≡ stop_of nib NoCount → Drew ws nib (no_count ∷ []) ws (Err s)
+  pub count_stops : s ≡ stop_of nib NoCount → Drew ws (Ok nib) (no_count ∷ []) ws (Err s)
   unfolding ink_all ink_event ink_on stop_of
   count_stops e = drew (rw e)
 
-  pub join_stops : s ≡ stop_of nib NoJoin → Drew ws nib (no_join ∷ []) ws (Err s)
+  pub join_stops : s ≡ stop_of nib NoJoin → Drew ws (Ok nib) (no_join ∷ []) ws (Err s)
   unfolding ink_all ink_event ink_on stop_of
   join_stops e = drew (rw e)

@@ -15,40 +15,40 @@ use Rattle.drawing.specs.Join.{join_events}
 use Rattle.drawing.specs.Cubic.{cubic_at, start_tangent, end_tangent}
 
 -- every function that draws into the lent words
-pub drew_only : (ws : List ℕ) (nib : Nib) (es : List Event) → Only (λ (s : Page). Drew ws nib es s.words s.ink)
-drew_only ws nib es r s h k = exact h ∙ sym (exact k)
+pub drew_only : (ws : List ℕ) (ink : Ink) (es : List Event) → Only (λ (s : Page). Drew ws ink es s.words s.ink)
+drew_only ws ink es r s h k = exact h ∙ sym (exact k)
 
-module _ (ws : List ℕ) (nib : Nib) where
+module _ (ws : List ℕ) (ink : Ink) where
   abbrev Draws : List Event → Page → Type 0
-  Draws es s = Drew ws nib es s.words s.ink
+  Draws es s = Drew ws ink es s.words s.ink
 
   pub write_line_only : (p q : Vec2) → Only (Draws (line p q ∷ []))
-  write_line_only p q = drew_only ws nib (line p q ∷ [])
+  write_line_only p q = drew_only ws ink (line p q ∷ [])
 
   pub output_line_with_transform_only : (z : List Float) (p q : Vec2) → Only (Draws (line_through z p q ∷ []))
-  output_line_with_transform_only z p q = drew_only ws nib (line_through z p q ∷ [])
+  output_line_with_transform_only z p q = drew_only ws ink (line_through z p q ∷ [])
 
   pub output_two_lines_with_transform_only : (z : List Float) (p q r s : Vec2) → Only (Draws (line_through z p q ∷ line_through z r s ∷ []))
-  output_two_lines_with_transform_only z p q r s = drew_only ws nib (line_through z p q ∷ line_through z r s ∷ [])
+  output_two_lines_with_transform_only z p q r s = drew_only ws ink (line_through z p q ∷ line_through z r s ∷ [])
 
   pub flatten_arc_only : (z : List Float) (begin end center : Vec2) (angle : Float) → Only (Draws (arc_of z begin end center angle))
-  flatten_arc_only z begin end center angle = drew_only ws nib (arc_of z begin end center angle)
+  flatten_arc_only z begin end center angle = drew_only ws ink (arc_of z begin end center angle)
 
   pub draw_cap_only : (style : ℕ) (z : List Float) (p cap0 cap1 tangent : Vec2) → Only (Draws (cap_events style z p cap0 cap1 tangent))
-  draw_cap_only style z p cap0 cap1 tangent = drew_only ws nib (cap_events style z p cap0 cap1 tangent)
+  draw_cap_only style z p cap0 cap1 tangent = drew_only ws ink (cap_events style z p cap0 cap1 tangent)
 
   pub draw_join_only : (flags : ℕ) (z : List Float) (p tp tn np nn : Vec2) → Only (Draws (join_events flags z p tp tn np nn))
-  draw_join_only flags z p tp tn np nn = drew_only ws nib (join_events flags z p tp tn np nn)
+  draw_join_only flags z p tp tn np nn = drew_only ws ink (join_events flags z p tp tn np nn)
 
 -- the two that stop without them
-stop_only : (nib : Nib) (es : List Event) → Only (λ (r : Ink). (ws : List ℕ) → Drew ws nib es ws r)
-stop_only nib es r s h k = ap (λ (t : Page). t.ink) (exact (h []) ∙ sym (exact (k [])))
+stop_only : (ink : Ink) (es : List Event) → Only (λ (r : Ink). (ws : List ℕ) → Drew ws ink es ws r)
+stop_only ink es r s h k = ap (λ (t : Page). t.ink) (exact (h []) ∙ sym (exact (k [])))
 
-pub no_count_only : (nib : Nib) → Only (λ (r : Ink). (ws : List ℕ) → Drew ws nib (no_count ∷ []) ws r)
-no_count_only nib = stop_only nib (no_count ∷ [])
+pub no_count_only : (ink : Ink) → Only (λ (r : Ink). (ws : List ℕ) → Drew ws ink (no_count ∷ []) ws r)
+no_count_only ink = stop_only ink (no_count ∷ [])
 
-pub no_join_only : (nib : Nib) → Only (λ (r : Ink). (ws : List ℕ) → Drew ws nib (no_join ∷ []) ws r)
-no_join_only nib = stop_only nib (no_join ∷ [])
+pub no_join_only : (ink : Ink) → Only (λ (r : Ink). (ws : List ℕ) → Drew ws ink (no_join ∷ []) ws r)
+no_join_only ink = stop_only ink (no_join ∷ [])
 
 pub stopped_only : (d : Ink) → Only (λ (r : Bool). r ≡ is_err d)
 stopped_only d = determined (is_err d)

@@ -117,6 +117,6 @@ told ws (Err s) =
 abbrev pub told_of : Page → Told
 told_of s = told s.words s.ink
 
--- ---- the contract of every function that draws: with the words and the nib before, the events leave the words and the answer after
-pub record Drew (before : List ℕ) (nib : Nib) (es : List Event) (after : List ℕ) (r : Ink) : Type 0 where
-  pub is : told after r ≡ told_of (ink_all (page before (Ok nib)) es)
+-- ---- the contract of every function that draws: with the words and the answer before, the events leave the words and the answer after
+pub record Drew (before : List ℕ) (ink : Ink) (es : List Event) (after : List ℕ) (r : Ink) : Type 0 where
+  pub is : told after r ≡ told_of (ink_all (page before ink) es)

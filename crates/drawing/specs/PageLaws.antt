@@ -1,6 +1,6 @@
 -- How drawings follow one another. Assumes nothing.
-use Rattle.std.specs.Prelude.{ℕ, ◌*◌, ◌≡◌, refl, Bool, true, false, List, [], ◌∷◌, ◌++◌, Result, Ok, Err, length}
-use Rattle.std.proofs.Common.{ap, sym, ◌∙◌}
+use Rattle.std.specs.Prelude.{ℕ, ◌*◌, ◌≡◌, refl, Bool, true, false, List, [], ◌∷◌, ◌++◌, Result, Ok, Err, is_err, length}
+use Rattle.std.proofs.Common.{ap, sym, ◌∙◌, arith}
 use Rattle.std.specs.Result.{IsErrAnd}
 use Rattle.std.proofs.Math.Seq.{length-sets}
 use Rattle.std.proofs.lemmas.Result.{err_from_is_err_and}
@@ -27,19 +27,23 @@ back ws (Ok nib) = refl
 back ws (Err s) = ap (λ (w : Refusal). page ws (halt w s.count)) (number_names s.why)
 
 -- the contract, as an equation of pages, and back
-pub exact : {ws ws' : List ℕ} {nib : Nib} {r : Ink} {es : List Event} → Drew ws nib es ws' r → page ws' r ≡ ink_all (page ws (Ok nib)) es
-exact {ws} {ws'} {nib} {r} {es} h =
-    let s = ink_all (page ws (Ok nib)) es in
+pub exact : {ws ws' : List ℕ} {ink r : Ink} {es : List Event} → Drew ws ink es ws' r → page ws' r ≡ ink_all (page ws ink) es
+exact {ws} {ws'} {ink} {r} {es} h =
+    let s = ink_all (page ws ink) es in
     sym (back ws' r) ∙ ap page_in h.is ∙ back s.words s.ink
 
-pub drew : {ws ws' : List ℕ} {nib : Nib} {r : Ink} {es : List Event} → page ws' r ≡ ink_all (page ws (Ok nib)) es → Drew ws nib es ws' r
+pub drew : {ws ws' : List ℕ} {ink r : Ink} {es : List Event} → page ws' r ≡ ink_all (page ws ink) es → Drew ws ink es ws' r
 drew e = record { is = ap told_of e }
 
 -- ---- a page that stopped takes no more
-pub stays : (ws : List ℕ) (s : Stopped) (es : List Event) → page ws (Err s) ≡ ink_all (page ws (Err s)) es
+pub absorbs : (ws : List ℕ) (s : Stopped) (es : List Event) → page ws (Err s) ≡ ink_all (page ws (Err s)) es
 unfolding ink_all ink_event
-stays ws s [] = refl
-stays ws s (e ∷ es) = stays ws s es
+absorbs ws s [] = refl
+absorbs ws s (e ∷ es) = absorbs ws s es
+
+pub stays : {ws : List ℕ} {d : Ink} {es : List Event} → is_err d ≡ true → Drew ws d es ws d
+stays {d = Ok nib} h = let z : ◌≡◌ {A = ℕ} 0 1 = cc in absurd (omega arith)
+stays {ws} {d = Err s} {es} h = drew (absorbs ws s es)
 
 append : (s : Page) (xs ys : List Event) → ink_all s (xs ++ ys) ≡ ink_all (ink_all s xs) ys
 unfolding ink_all
@@ -47,48 +51,58 @@ append s [] ys = refl
 append s (x ∷ xs) ys = append (ink_event s.words s.ink x) xs ys
 
 -- ---- calls in a row
-pub nothing : {ws : List ℕ} {nib : Nib} → Drew ws nib [] ws (Ok nib)
+pub nothing : {ws : List ℕ} {ink : Ink} → Drew ws ink [] ws ink
 unfolding ink_all
 nothing = drew refl
 
 -- what a call left is drawn on by the next one
-pub then : {ws ws' ws'' : List ℕ} {nib nib' : Nib} {r : Ink} {xs ys : List Event} → Drew ws nib xs ws' (Ok nib') → Drew ws' nib' ys ws'' r → Drew ws nib (xs ++ ys) ws'' r
-then {ws} {nib = nib} {xs = xs} {ys = ys} h k = drew (exact k ∙ ap (λ (s : Page). ink_all s ys) (exact h) ∙ sym (append (page ws (Ok nib)) xs ys))
+pub then : {ws ws' ws'' : List ℕ} {ink ink' r : Ink} {xs ys : List Event} → Drew ws ink xs ws' ink' → Drew ws' ink' ys ws'' r → Drew ws ink (xs ++ ys) ws'' r
+then {ws} {ink = ink} {xs = xs} {ys = ys} h k = drew (exact k ∙ ap (λ (s : Page). ink_all s ys) (exact h) ∙ sym (append (page ws ink) xs ys))
 
 -- what `?` hands on
 pub passed : {A : Type 0} {r : Result A Stopped} {s : Stopped} → IsErrAnd r (λ (e : Stopped). e ≡ s) → r ≡ Err s
 passed {r = r} h = let p = err_from_is_err_and r h in p.1 ∙ ap (λ (e : Stopped). Err e) p.2
 
+-- what is drawn with an answer is drawn with what is handed in, where they are one
+pub handed : {ws ws' : List ℕ} {ink ink' r : Ink} {es : List Event} → ink ≡ ink' → Drew ws ink' es ws' r → Drew ws ink es ws' r
+handed e h = rw e h
+
+-- what stopped before draws nothing and gives the stop back
+pub stopped : {ws : List ℕ} {r : Ink} {s : Stopped} (es : List Event) → IsErrAnd r (λ (e : Stopped). e ≡ s) → Drew ws (Err s) es ws r
+stopped {ws} {s = s} es k = drew (ap (page ws) (passed k) ∙ absorbs ws s es)
+
 -- a call that stopped is the last one
-pub stops : {ws ws' : List ℕ} {nib : Nib} {r : Ink} {s : Stopped} {xs : List Event} (ys : List Event) → Drew ws nib xs ws' (Err s) → IsErrAnd r (λ (e : Stopped). e ≡ s) → Drew ws nib (xs ++ ys) ws' r
-stops {ws} {ws'} {nib} {s = s} {xs = xs} ys h k =
-    drew (ap (page ws') (passed k) ∙ stays ws' s ys ∙ ap (λ (t : Page). ink_all t ys) (exact h) ∙ sym (append (page ws (Ok nib)) xs ys))
+pub stops : {ws ws' : List ℕ} {ink r : Ink} {s : Stopped} {xs : List Event} (ys : List Event) → Drew ws ink xs ws' (Err s) → IsErrAnd r (λ (e : Stopped). e ≡ s) → Drew ws ink (xs ++ ys) ws' r
+stops {xs = xs} ys h k = then h (stopped ys k)
 
 -- the events of the code are those of the definition
-pub draws : {ws ws' : List ℕ} {nib : Nib} {r : Ink} {xs ys : List Event} → Drew ws nib xs ws' r → xs ≡ ys → Drew ws nib ys ws' r
-draws {ws} {nib = nib} h e = drew (exact h ∙ ap (ink_all (page ws (Ok nib))) e)
+pub draws : {ws ws' : List ℕ} {ink r : Ink} {xs ys : List Event} → Drew ws ink xs ws' r → xs ≡ ys → Drew ws ink ys ws' r
+draws {ws} {ink = ink} h e = drew (exact h ∙ ap (ink_all (page ws ink)) e)
 
 -- ---- a loop
 
 -- the events es₀, drawn where the loop begins, come to the same as the events es, drawn where it is now
-pub record Left (ws₀ : List ℕ) (nib₀ : Nib) (es₀ : List Event) (ws : List ℕ) (nib : Nib) (es : List Event) : Type 0 where
-  pub is : ink_all (page ws (Ok nib)) es ≡ ink_all (page ws₀ (Ok nib₀)) es₀
+pub record Left (ws₀ : List ℕ) (d₀ : Ink) (es₀ : List Event) (ws : List ℕ) (d : Ink) (es : List Event) : Type 0 where
+  pub is : ink_all (page ws d) es ≡ ink_all (page ws₀ d₀) es₀
 
-pub begin : {ws : List ℕ} {nib : Nib} {es : List Event} → Left ws nib es ws nib es
+pub begin : {ws : List ℕ} {d : Ink} {es : List Event} → Left ws d es ws d es
 begin = record { is = refl }
 
-module _ {ws₀ ws ws' : List ℕ} {nib₀ nib : Nib} {es₀ es xs : List Event} where
+module _ {ws₀ ws ws' : List ℕ} {d₀ d d' : Ink} {es₀ es xs : List Event} where
   -- after the loop the rest is drawn
-  pub done : {r : Ink} → Left ws₀ nib₀ es₀ ws nib es → es ≡ xs → Drew ws nib xs ws' r → Drew ws₀ nib₀ es₀ ws' r
-  done l e h = drew (exact h ∙ sym (ap (ink_all (page ws (Ok nib))) e) ∙ l.is)
+  pub done : Left ws₀ d₀ es₀ ws d es → es ≡ xs → Drew ws d xs ws' d' → Drew ws₀ d₀ es₀ ws' d'
+  done l e h = drew (exact h ∙ sym (ap (ink_all (page ws d)) e) ∙ l.is)
 
   -- a turn draws the first events of what is left
-  pub turn : {nib' : Nib} {ys : List Event} → Left ws₀ nib₀ es₀ ws nib es → es ≡ xs ++ ys → Drew ws nib xs ws' (Ok nib') → Left ws₀ nib₀ es₀ ws' nib' ys
-  turn {nib'} {ys} l e h =
-      record { is = ap (λ (s : Page). ink_all s ys) (exact h) ∙ sym (append (page ws (Ok nib)) xs ys) ∙ sym (ap (ink_all (page ws (Ok nib))) e) ∙ l.is }
+  pub turn : {ys : List Event} → Left ws₀ d₀ es₀ ws d es → es ≡ xs ++ ys → Drew ws d xs ws' d' → Left ws₀ d₀ es₀ ws' d' ys
+  turn {ys} l e h =
+      record { is = ap (λ (s : Page). ink_all s ys) (exact h) ∙ sym (append (page ws d) xs ys) ∙ sym (ap (ink_all (page ws d)) e) ∙ l.is }
 
 -- a stop ends the loop
-pub halts : {ws₀ ws ws' : List ℕ} {nib₀ nib : Nib} {r : Ink} {s : Stopped} {es₀ es xs : List Event} (ys : List Event) → Left ws₀ nib₀ es₀ ws nib es → es ≡ xs ++ ys → Drew ws nib xs ws' (Err s) → IsErrAnd r (λ (e : Stopped). e ≡ s) → Drew ws₀ nib₀ es₀ ws' r
+pub ends : {ws₀ ws : List ℕ} {d₀ d : Ink} {es₀ es : List Event} → Left ws₀ d₀ es₀ ws d es → is_err d ≡ true → Drew ws₀ d₀ es₀ ws d
+ends l h = done l refl (stays h)
+
+pub halts : {ws₀ ws ws' : List ℕ} {d₀ d r : Ink} {s : Stopped} {es₀ es xs : List Event} (ys : List Event) → Left ws₀ d₀ es₀ ws d es → es ≡ xs ++ ys → Drew ws d xs ws' (Err s) → IsErrAnd r (λ (e : Stopped). e ≡ s) → Drew ws₀ d₀ es₀ ws' r
 halts ys l e h k = done l e (stops ys h k)
 
 -- ---- the lent words stay as many
@@ -111,5 +125,5 @@ unfolding ink_all
 all_length s [] = refl
 all_length s (e ∷ es) = all_length (ink_event s.words s.ink e) es ∙ draw_length s.words s.ink e
 
-pub as_many : {ws ws' : List ℕ} {nib : Nib} {r : Ink} {es : List Event} → Drew ws nib es ws' r → length ws' ≡ length ws
-as_many {ws} {nib = nib} {es = es} h = ap (λ (s : Page). length s.words) (exact h) ∙ all_length (page ws (Ok nib)) es
+pub as_many : {ws ws' : List ℕ} {ink r : Ink} {es : List Event} → Drew ws ink es ws' r → length ws' ≡ length ws
+as_many {ws} {ink = ink} {es = es} h = ap (λ (s : Page). length s.words) (exact h) ∙ all_length (page ws ink) es

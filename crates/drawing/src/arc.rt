@@ -1,11 +1,11 @@
 // Arcs, as chords of a fixed turn.
-#![tactic(auto, unfolding(crate::specs::Arc::arc_radius, crate::specs::Arc::arc_step, crate::specs::Arc::arc_count, crate::specs::Arc::arc_turn, crate::specs::Arc::arc_of, crate::proofs::Floats::of_bits, crate::proofs::Floats::round))]
+#![tactic(auto, using(crate::specs::PageLaws::stopped), unfolding(crate::specs::Arc::arc_radius, crate::specs::Arc::arc_step, crate::specs::Arc::arc_count, crate::specs::Arc::arc_turn, crate::specs::Arc::arc_of, crate::proofs::Floats::of_bits, crate::proofs::Floats::round))]
 
-ghost use Rattle.std.specs.Prelude.{◌≡◌};
+ghost use Rattle.std.specs.Prelude.{◌≡◌, Ok};
 ghost use Rattle.drawing.specs.Page.{Drew};
 ghost use Rattle.drawing.specs.Arc.{arc_radius, arc_step, arc_count, arc_turn, chords, arc_of};
 
-use crate::line::{Nib, Stopped, write_line};
+use crate::line::{Ink, Nib, write_line};
 use spiral::util::{Vec2, apply};
 
 const TOLERANCE: f32 = 0.25;
@@ -50,8 +50,8 @@ fn draw_chords(
     rot: [f32; 6],
     transform: [f32; 6],
     turns: u32,
-) -> Result<Nib, Stopped>
-    ensures { Drew lines.old nib (chords turns rot transform center end p0 r) lines.new result }
+) -> Ink
+    ensures { Drew lines.old (Ok nib) (chords turns rot transform center end p0 r) lines.new result }
 {
     let mut nib = nib;
     let mut at = p0;
@@ -59,23 +59,24 @@ fn draw_chords(
     for _ in 0..turns {
         arm = apply(rot, arm);
         let next = apply(transform, center + arm);
-        nib = write_line(lines, nib, at, next)?;
+        nib = write_line(lines, Ok(nib), at, next)?;
         at = next;
     }
-    write_line(lines, nib, at, apply(transform, end))
+    write_line(lines, Ok(nib), at, apply(transform, end))
 }
 
 pub fn flatten_arc(
     lines: &mut [u32],
-    nib: Nib,
+    ink: Ink,
     begin: Vec2,
     end: Vec2,
     center: Vec2,
     angle: f32,
     transform: [f32; 6],
-) -> Result<Nib, Stopped>
-    ensures { Drew lines.old nib (arc_of transform begin end center angle) lines.new result }
+) -> Ink
+    ensures { Drew lines.old ink (arc_of transform begin end center angle) lines.new result }
 {
+    let nib = ink?;
     let theta = arc_step(arc_radius(begin, center, transform));
     let n_lines = arc_count(angle, theta);
     let p0 = apply(transform, begin);

@@ -6,9 +6,7 @@ ghost use Rattle.drawing.specs.Page.{Drew};
 ghost use Rattle.drawing.specs.Join.{cross, corners_of, both_sides, bevel_events, in_limit, miter_point, miter_events, round_events, join_events};
 
 use crate::arc::flatten_arc;
-use crate::line::{
-    Nib, Stopped, no_join, output_line_with_transform, output_two_lines_with_transform,
-};
+use crate::line::{Ink, no_join, output_line_with_transform, output_two_lines_with_transform};
 use spiral::euler::TANGENT_THRESH;
 use spiral::util::Vec2;
 
@@ -58,19 +56,19 @@ fn corners_of(p0: Vec2, n_prev: Vec2, n_next: Vec2) -> Corners
 
 // The front, then the back. Of the four parameters here and in the joins, `line.rt` says why the first two are two; the corners are
 // made by one join for all three, and the transform is the segment's.
-fn draw_sides(lines: &mut [u32], nib: Nib, k: Corners, transform: [f32; 6]) -> Result<Nib, Stopped>
-    ensures { Drew lines.old nib (both_sides transform k) lines.new result }
+fn draw_sides(lines: &mut [u32], ink: Ink, k: Corners, transform: [f32; 6]) -> Ink
+    ensures { Drew lines.old ink (both_sides transform k) lines.new result }
 {
-    output_two_lines_with_transform(lines, nib, k.front0, k.front1, k.back0, k.back1, transform)
+    output_two_lines_with_transform(lines, ink, k.front0, k.front1, k.back0, k.back1, transform)
 }
 
-fn bevel_join(lines: &mut [u32], nib: Nib, k: Corners, transform: [f32; 6]) -> Result<Nib, Stopped>
-    ensures { Drew lines.old nib (bevel_events transform k) lines.new result }
+fn bevel_join(lines: &mut [u32], ink: Ink, k: Corners, transform: [f32; 6]) -> Ink
+    ensures { Drew lines.old ink (bevel_events transform k) lines.new result }
 {
     if k.front0 == k.front1 || k.back0 == k.back1 {
-        return Ok(nib);
+        return ink;
     }
-    draw_sides(lines, nib, k, transform)
+    draw_sides(lines, ink, k, transform)
 }
 
 fn in_limit(cr: f32, d: f32, limit: f32) -> bool
@@ -90,49 +88,49 @@ fn miter_point(b: Bend, last: Vec2, this: Vec2) -> Vec2
 // The back runs the other way, so its corners stand in another order than the front's, and the two sides are written out.
 fn miter_join(
     lines: &mut [u32],
-    nib: Nib,
+    ink: Ink,
     k: Corners,
     b: Bend,
     limit: f32,
     transform: [f32; 6],
-) -> Result<Nib, Stopped>
-    ensures { Drew lines.old nib (miter_events transform k b limit) lines.new result }
+) -> Ink
+    ensures { Drew lines.old ink (miter_events transform k b limit) lines.new result }
 {
     if in_limit(b.cr, b.d, limit) {
         if b.cr > 0.0 {
             let tip = miter_point(b, k.back1, k.back0);
-            let first = output_line_with_transform(lines, nib, k.back0, tip, transform)?;
+            let first = output_line_with_transform(lines, ink, k.back0, tip, transform);
             return draw_sides(lines, first, Corners { back0: tip, ..k }, transform);
         }
         let tip = miter_point(b, k.front0, k.front1);
-        let first = output_line_with_transform(lines, nib, k.front0, tip, transform)?;
+        let first = output_line_with_transform(lines, ink, k.front0, tip, transform);
         return draw_sides(lines, first, Corners { front0: tip, ..k }, transform);
     }
-    draw_sides(lines, nib, k, transform)
+    draw_sides(lines, ink, k, transform)
 }
 
 fn round_join(
     lines: &mut [u32],
-    nib: Nib,
+    ink: Ink,
     k: Corners,
     b: Bend,
     p0: Vec2,
     transform: [f32; 6],
-) -> Result<Nib, Stopped>
-    ensures { Drew lines.old nib (round_events transform k b p0) lines.new result }
+) -> Ink
+    ensures { Drew lines.old ink (round_events transform k b p0) lines.new result }
 {
     let angle = maths::abs(maths::atan2(b.cr, b.d));
     if b.cr > 0.0 {
-        let first = flatten_arc(lines, nib, k.back0, k.back1, p0, angle, transform)?;
+        let first = flatten_arc(lines, ink, k.back0, k.back1, p0, angle, transform);
         return output_line_with_transform(lines, first, k.front0, k.front1, transform);
     }
-    let first = flatten_arc(lines, nib, k.front0, k.front1, p0, angle, transform)?;
+    let first = flatten_arc(lines, ink, k.front0, k.front1, p0, angle, transform);
     output_line_with_transform(lines, first, k.back0, k.back1, transform)
 }
 
 pub fn draw_join(
     lines: &mut [u32],
-    nib: Nib,
+    ink: Ink,
     style_flags: u32,
     p0: Vec2,
     tan_prev: Vec2,
@@ -140,8 +138,8 @@ pub fn draw_join(
     n_prev: Vec2,
     n_next: Vec2,
     transform: [f32; 6],
-) -> Result<Nib, Stopped>
-    ensures { Drew lines.old nib (join_events style_flags transform p0 tan_prev tan_next n_prev n_next) lines.new result }
+) -> Ink
+    ensures { Drew lines.old ink (join_events style_flags transform p0 tan_prev tan_next n_prev n_next) lines.new result }
 {
     let k = corners_of(p0, n_prev, n_next);
     let cr = cross_of(tan_prev, tan_next);
@@ -153,9 +151,9 @@ pub fn draw_join(
         d,
     };
     match style_flags & JOIN_MASK {
-        JOIN_BEVEL => bevel_join(lines, nib, k, transform),
-        JOIN_MITER => miter_join(lines, nib, k, b, maths::half(style_flags), transform),
-        JOIN_ROUND => round_join(lines, nib, k, b, p0, transform),
-        _ => no_join(nib),
+        JOIN_BEVEL => bevel_join(lines, ink, k, transform),
+        JOIN_MITER => miter_join(lines, ink, k, b, maths::half(style_flags), transform),
+        JOIN_ROUND => round_join(lines, ink, k, b, p0, transform),
+        _ => no_join(ink),
     }
 }

@@ -1,10 +1,10 @@
 // A line is stored as six words behind those stored before, until one is refused.
-#![tactic(auto, unfolding(crate::specs::Page::lesser_of, crate::specs::Page::greater_of, crate::specs::Page::empty_reach, crate::specs::Page::reach_with, crate::specs::Page::whole_box, crate::specs::Page::pen_of, crate::specs::Page::stop_of, crate::specs::Sheet::empty_box))]
+#![tactic(auto, using(crate::specs::PageLaws::stopped, crate::proofs::Draw::count_stops, crate::proofs::Draw::join_stops), unfolding(crate::specs::Page::lesser_of, crate::specs::Page::greater_of, crate::specs::Page::empty_reach, crate::specs::Page::reach_with, crate::specs::Page::whole_box, crate::specs::Page::pen_of, crate::specs::Page::dried_of, crate::specs::Page::stop_of, crate::specs::Sheet::empty_box))]
 
 ghost use Rattle.std.specs.Prelude.{◌≡◌, List, [], ◌∷◌, ℕ, ◌+◌, ◌<◌, length};
 ghost use Rattle.std.proofs.lemmas.List.Edits.{sets};
 ghost use Rattle.drawing.specs.Sheet.{empty_box, record_of, line, no_count, no_join, line_through};
-ghost use Rattle.drawing.specs.Page.{lesser_of, greater_of, empty_reach, reach_with, whole_box, pen_of, stop_of, Drew};
+ghost use Rattle.drawing.specs.Page.{lesser_of, greater_of, empty_reach, reach_with, whole_box, pen_of, dried_of, stop_of, Drew};
 
 use refusals::{LineEnd, Refusal};
 use spiral::util::{Vec2, apply};
@@ -61,6 +61,9 @@ pub struct Nib {
     pub count: u32,
     pub reach: Reach,
 }
+
+// The answer while lines are drawn: it goes in as well as out, and a stop comes back as it was.
+pub type Ink = Result<Nib, Stopped>;
 
 // Not f32's min and max, which answer otherwise at a NaN and at the two zeros. Two functions of one comparison each: one for both
 // would be handed the comparison.
@@ -138,6 +141,13 @@ impl Nib {
     }
 }
 
+// The answer as a tag leaves it.
+pub fn dried(ink: Ink) -> Result<Pen, Stopped>
+    ensures { result ≡ dried_of ink }
+{
+    Ok(ink?.dried())
+}
+
 fn put(lines: &mut [u32], at: usize, path: u32, tag: u32, p0: Vec2, p1: Vec2)
     requires { at + 5 < length lines.old }
     ensures { lines.new ≡ sets lines.old at (record_of path tag p0 p1) }
@@ -154,11 +164,13 @@ fn put(lines: &mut [u32], at: usize, path: u32, tag: u32, p0: Vec2, p1: Vec2)
     lines[at + 5] = y1;
 }
 
-// Takes device points. The lines stay lent and the nib goes by value, here and in all that draws: in one struct each line would
-// take both out of it and put a new nib in. A NaN is refused before room is looked for, the start's before the end's.
-pub fn write_line(lines: &mut [u32], nib: Nib, p0: Vec2, p1: Vec2) -> Result<Nib, Stopped>
-    ensures { Drew lines.old nib (line p0 p1 ∷ []) lines.new result }
+// Takes device points. The lines stay lent and the answer goes by value, here and in all that draws: in one struct each line would
+// take both out of it and put a new nib in. A NaN is refused before room is looked for, the start's before the end's. What draws
+// with this one hands the answer on: after a stop nothing more is stored.
+pub fn write_line(lines: &mut [u32], ink: Ink, p0: Vec2, p1: Vec2) -> Ink
+    ensures { Drew lines.old ink (line p0 p1 ∷ []) lines.new result }
 {
+    let nib = ink?;
     if p0.is_nan() {
         return Err(nib.stop(Refusal::NotNumber(LineEnd::Start)));
     }
@@ -185,42 +197,42 @@ pub fn write_line(lines: &mut [u32], nib: Nib, p0: Vec2, p1: Vec2) -> Result<Nib
 
 pub fn output_line_with_transform(
     lines: &mut [u32],
-    nib: Nib,
+    ink: Ink,
     p0: Vec2,
     p1: Vec2,
     transform: [f32; 6],
-) -> Result<Nib, Stopped>
-    ensures { Drew lines.old nib (line_through transform p0 p1 ∷ []) lines.new result }
+) -> Ink
+    ensures { Drew lines.old ink (line_through transform p0 p1 ∷ []) lines.new result }
 {
-    write_line(lines, nib, apply(transform, p0), apply(transform, p1))
+    write_line(lines, ink, apply(transform, p0), apply(transform, p1))
 }
 
 pub fn output_two_lines_with_transform(
     lines: &mut [u32],
-    nib: Nib,
+    ink: Ink,
     p00: Vec2,
     p01: Vec2,
     p10: Vec2,
     p11: Vec2,
     transform: [f32; 6],
-) -> Result<Nib, Stopped>
-    ensures { Drew lines.old nib (line_through transform p00 p01 ∷ line_through transform p10 p11 ∷ []) lines.new result }
+) -> Ink
+    ensures { Drew lines.old ink (line_through transform p00 p01 ∷ line_through transform p10 p11 ∷ []) lines.new result }
 {
-    let first = output_line_with_transform(lines, nib, p00, p01, transform)?;
+    let first = output_line_with_transform(lines, ink, p00, p01, transform);
     output_line_with_transform(lines, first, p10, p11, transform)
 }
 
 // Where a subdivision count is not a number. Two functions, since each is the one event of the drawing that its name says, and one
 // over a refusal would promise of every refusal what holds of these two.
-pub fn no_count(nib: Nib) -> Result<Nib, Stopped>
-    ensures { (ws : List ℕ) → Drew ws nib (no_count ∷ []) ws result }
+pub fn no_count(ink: Ink) -> Ink
+    ensures { (ws : List ℕ) → Drew ws ink (no_count ∷ []) ws result }
 {
-    Err(nib.stop(Refusal::NoCount))
+    Err(ink?.stop(Refusal::NoCount))
 }
 
 // Where the style names no join.
-pub fn no_join(nib: Nib) -> Result<Nib, Stopped>
-    ensures { (ws : List ℕ) → Drew ws nib (no_join ∷ []) ws result }
+pub fn no_join(ink: Ink) -> Ink
+    ensures { (ws : List ℕ) → Drew ws ink (no_join ∷ []) ws result }
 {
-    Err(nib.stop(Refusal::NoJoin))
+    Err(ink?.stop(Refusal::NoJoin))
 }

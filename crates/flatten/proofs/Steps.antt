@@ -2,15 +2,11 @@
 use Rattle.std.proofs.Common.{◌≡◌, ℕ, ◌<◌, List, [], sym, refl, ap, ◌∙◌, subst, arith}
 use Rattle.refusals.specs.Refusals.{Read}
 use Rattle.std.specs.Prelude.{Ok, Err}
-use Rattle.std.specs.Result.{IsErrAnd}
 use Rattle.refusals.specs.declared.Refusal.{Refusal}
 use Rattle.drawing.specs.Sheet.{IntBbox, Event, Drawn, sheet, empty_box, draw_all}
 use Rattle.drawing.specs.Page.{Reach, empty_reach, pen_of, dried_of, Ink, page, ink_all, Drew}
-use Rattle.drawing.specs.PageLaws.{exact, passed}
+use Rattle.drawing.specs.PageLaws.{exact}
 use Rattle.drawing.specs.Dried.{empty_clean, empty_whole, dried_page, all_dries}
-use Rattle.drawing.specs.declared.line.Nib.{Nib}
-use Rattle.drawing.specs.declared.line.Pen.{Pen}
-use Rattle.drawing.specs.declared.line.Stopped.{Stopped}
 use Rattle.flatten.specs.Step.{drawn_of, fresh_pen, turn_of, refused_at, stepped, behind, tag_word}
 use Rattle.flatten.specs.declared.call.Turn.{Turn}
 use Rattle.flatten.specs.declared.tag.Head.{Head}
@@ -28,22 +24,12 @@ unfolding drawn_of draw_all
 drew_none path n tag ws e = rw e refl
 
 -- a tag's segment is drawn with a box of its own
-dried : {path n tag : ℕ} {reach : Reach} {ws ws' : List ℕ} {d : Ink} {es : List Event} → reach ≡ empty_reach → Drew ws (record { count = n; tag = tag; path = path; reach = reach }) es ws' d
+pub drew_dried : {path n tag : ℕ} {reach : Reach} {ws ws' : List ℕ} {d : Ink} {es : List Event} → reach ≡ empty_reach → Drew ws (Ok (record { count = n; tag = tag; path = path; reach = reach })) es ws' d
     → sheet ws' (dried_of d) ≡ drawn_of path (record { count = n; tag = tag; bbox = empty_box }) ws (Ok es)
-dried {path} {n} {tag} {reach} {ws} {ws'} {d} {es} e h = ap dried_page (exact h) ∙ subst Dry (sym e) (fresh path n tag ws es)
+drew_dried {path} {n} {tag} {reach} {ws} {ws'} {d} {es} e h = ap dried_page (exact h) ∙ subst Dry (sym e) (fresh path n tag ws es)
   where
     Dry : Reach → Type 0
     Dry x = dried_page (ink_all (page ws (Ok (record { count = n; tag = tag; path = path; reach = x }))) es) ≡ drawn_of path (record { count = n; tag = tag; bbox = empty_box }) ws (Ok es)
-
-pub drew_found : {path n tag : ℕ} {reach : Reach} {ws ws' : List ℕ} {nib : Nib} {pen : Pen} {es : List Event} → reach ≡ empty_reach → Drew ws (record { count = n; tag = tag; path = path; reach = reach }) es ws' (Ok nib) → pen ≡ pen_of nib
-    → sheet ws' (Ok pen) ≡ drawn_of path (record { count = n; tag = tag; bbox = empty_box }) ws (Ok es)
-unfolding dried_of
-drew_found {ws' = ws'} e h k = ap (λ (p : Pen). sheet ws' (Ok p)) k ∙ dried e h
-
-pub drew_stopped : {path n tag : ℕ} {reach : Reach} {ws ws' : List ℕ} {s : Stopped} {r : Drawn} {es : List Event} → reach ≡ empty_reach → Drew ws (record { count = n; tag = tag; path = path; reach = reach }) es ws' (Err s) → IsErrAnd r (λ (e : Stopped). e ≡ s)
-    → sheet ws' r ≡ drawn_of path (record { count = n; tag = tag; bbox = empty_box }) ws (Ok es)
-unfolding dried_of
-drew_stopped {ws' = ws'} e h k = ap (sheet ws') (passed k) ∙ dried e h
 
 pub went : (path word : ℕ) (ws ws' : List ℕ) (d : Drawn) (r : Read (List Event)) (t : Turn) (h : Head) → word ≡ tag_word t.tag
     → sheet ws' d ≡ drawn_of path (record { count = t.count; tag = word; bbox = empty_box }) ws r → stepped (turn_of t h d) ws' ≡ behind t h (drawn_of path (fresh_pen tag_word t) ws r)

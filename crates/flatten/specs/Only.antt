@@ -8,7 +8,7 @@ use Rattle.refusals.specs.declared.Refusal.{Refusal}
 use Rattle.scene.specs.declared.tags.PathTagData.{PathTagData}
 use Rattle.flatten.specs.Boxes.{fresh_box, changed_of, changed_at}
 use Rattle.flatten.specs.Call.{Answer, told_of, report_of, Outcome, outcome, call_of, owned_of}
-use Rattle.flatten.specs.Tag.{head_at, is_stroke, points_at, numbers_at, shape_at}
+use Rattle.flatten.specs.Tag.{head_at, is_path, is_stroke, points_at, numbers_at, shape_at}
 use Rattle.flatten.specs.declared.boxes.PathBox.{PathBox}
 use Rattle.flatten.specs.declared.boxes.Change.{Change}
 use Rattle.flatten.specs.declared.call.Layout.{Layout}
@@ -66,6 +66,12 @@ flatten_owned_only layout scene prefixes ps n ws r s p q =
     let a = one_answer r.0.answer s.0.answer (ap (λ (o : Outcome). o.answer) e) in λ i. (record { answer = a i; boxes = (e i).boxes }, (e i).lines)
 
 -- ---- the reads of a tag
+
+pub is_path_only : (h : Head) → Only (λ r. r ≡ is_path h)
+is_path_only h = determined (is_path h)
+
+pub is_stroke_only : (h : Head) → Only (λ r. r ≡ is_stroke h)
+is_stroke_only h = determined (is_stroke h)
 
 pub read_head_only : (layout : Layout) (scene prefixes : List ℕ) (n ix : ℕ) → Only (λ r. r ≡ head_at layout scene prefixes n ix)
 read_head_only layout scene prefixes n ix = determined (head_at layout scene prefixes n ix)

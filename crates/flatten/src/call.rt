@@ -51,7 +51,9 @@ impl From<Result<u32, Refused>> for Told {
     ghost from_gives = { λ a t. t ≡ told_of a };
 
     #[tactic(auto, unfolding(crate::specs::Call::told_of))]
-    fn from(answer: Result<u32, Refused>) -> Told {
+    fn from(answer: Result<u32, Refused>) -> Told
+        ensures { result ≡ told_of answer }
+    {
         match answer {
             Ok(count) => Told {
                 number: 0,

@@ -7,7 +7,7 @@ ghost use Rattle.flatten.specs.Step.{tag_word, drawn_of, change_of, turn_of, ref
 use crate::boxes::{Change, Mark};
 use crate::call::Turn;
 use crate::tag::{Given, Head};
-use drawing::line::{IntBbox, Nib, Pen, Reach, Stopped};
+use drawing::line::{IntBbox, Nib, Pen, Reach, Stopped, dried};
 use refusals::Refusal;
 use scene::reading::all_finite;
 use segment::{Segment, Shape};
@@ -75,8 +75,7 @@ fn draw_tag(
                 path: head.tag.monoid.path_ix,
                 reach: Reach::empty(),
             };
-            let drawn = drawing.segment.draw_shape(lines, nib, drawing.shape)?;
-            Ok(drawn.dried())
+            dried(drawing.segment.draw_shape(lines, Ok(nib), drawing.shape))
         }
         Err(why) => Err(Stopped { why, count }),
     }

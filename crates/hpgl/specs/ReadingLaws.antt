@@ -118,6 +118,10 @@ module _ (table : Table) where
     pub is : r ≡ num_run start e None start (drop start file)
     pub inside : EndsIn file start r
 
+  -- the byte behind a number
+  pub number_ends : (file : List ℕ) (start e : ℕ) (r : Number) → Numbered file start e r → (z : ℤ) (a : ℕ) → r ≡ Ok (z, a) → (start ≤ a) × (a < length file) × Within (range_of table) z
+  number_ends file start e r d z a g = let i : EndsIn file start (Ok (z, a)) = rw g at d.inside in i
+
   -- what holds before each byte of a number
   pub record Counting (file : List ℕ) (start e : ℕ) (n : Num) (at : ℕ) : Type 0 where
     pub same : num_run start e n at (drop at file) ≡ num_run start e None start (drop start file)

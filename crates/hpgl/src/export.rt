@@ -33,7 +33,9 @@ impl From<Result<usize, CutError>> for Report {
     ghost from_gives = { λ a t. t ≡ cut_report a };
 
     #[tactic(auto, unfolding(crate::specs::Export::cut_report))]
-    fn from(answer: Result<usize, CutError>) -> Report {
+    fn from(answer: Result<usize, CutError>) -> Report
+        ensures { result ≡ cut_report answer }
+    {
         match answer {
             Ok(n) => Report::new(0, n, 0),
             Err(CutError::BadNumber(n, i)) => Report::new(30, n, i),

@@ -3,6 +3,7 @@ ghost use Rattle.std.specs.Prelude.{◌≡◌, ◌≤◌, None};
 ghost use Rattle.hpgl.specs.Form.{range_of};
 ghost use Rattle.hpgl.specs.CommandLaws.{pen_of};
 ghost use Rattle.hpgl.specs.Export.{put, goes_on, put_line};
+ghost use Rattle.records.specs.Record.{word};
 ghost use Rattle.hpgl.specs.ExportLaws.{Continues, Steps, left};
 
 use crate::Table;
@@ -66,7 +67,7 @@ fn goes_on(last: Option<(u32, u32)>, x: u32, y: u32) -> bool
     }
 }
 
-// Record i, if it is of the path.
+// Record i, which is of the path.
 fn put_record<S: Sink>(
     list: &[u32],
     path: u32,
@@ -75,13 +76,11 @@ fn put_record<S: Sink>(
     table: Table,
     sink: &mut S,
 ) -> Result<Reached, Stop>
-    requires { from.at ≤ S.kind.size (S.held sink.old) }
+    requires room { from.at ≤ S.kind.size (S.held sink.old) }
+    requires its { word list.now i 0 ≡ path }
     ensures says { Steps S.kind (range_of table) list.now path i from (S.held sink.old) result (S.held sink.new) }
     ensures same { S.place sink.new ≡ S.place sink.old }
 {
-    if word_at(list, i, 0) != path {
-        return Ok(from);
-    }
     let line = line_at(list, i);
     let joined = goes_on(from.last, line.x, line.y);
     let at = put_line(sink, table, from.at, joined, line)?;
@@ -108,9 +107,12 @@ pub(crate) fn put_all<S: Sink>(
         last: None,
     };
     for i in 0..list.len() / 6 {
-        match put_record(list, path, i, here, table, sink) {
-            Ok(next) => here = next,
-            Err(stop) => return Err(stop.in_record(i)),
+        // Asked here, so that nothing is handed on for the others: to hand on what is reached would cost more than the test.
+        if word_at(list, i, 0) == path {
+            match put_record(list, path, i, here, table, sink) {
+                Ok(next) => here = next,
+                Err(stop) => return Err(stop.in_record(i)),
+            }
         }
     }
     Ok(here.at)

@@ -350,7 +350,9 @@ impl From<Result<usize, ReadError>> for Report {
     ghost from_gives = { λ a t. t ≡ back_report a };
 
     #[tactic(auto, unfolding(crate::specs::Reading::back_report))]
-    fn from(answer: Result<usize, ReadError>) -> Report {
+    fn from(answer: Result<usize, ReadError>) -> Report
+        ensures { result ≡ back_report answer }
+    {
         match answer {
             Ok(n) => Report::new(0, n, 0),
             Err(ReadError::TooFar(n, p)) => Report::new(32, n, p),

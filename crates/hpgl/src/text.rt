@@ -84,7 +84,7 @@ fn decimal_length(n: u32) -> usize
     if n < 10 {
         return 1;
     }
-    decimal_length(n / 10) + 1
+    n.ilog10() as usize + 1
 }
 
 // How many bytes the text of a number has.

@@ -22,6 +22,9 @@ near_only t a b = determined (is_near t a b)
 pub case_of_only : (ws : List ℕ) (t p : ℕ) → Only (IsCase ws t p)
 case_of_only ws t p = case_only ws t p
 
+pub from_only : (e : CheckError) → Only (λ r. r ≡ NotTaken e)
+from_only e = determined (NotTaken e)
+
 pub told_only : (o : Outcome) → Only (λ r. r ≡ told_of o)
 told_only o = determined (told_of o)
 

@@ -26,6 +26,10 @@ unfolding seen_in
 none_seen ws p zero h = refl
 none_seen ws p (suc k) h = rw (ne_eqb _ _ (h k (omega arith)), none_seen ws p k (λ j l. h j (omega arith)))
 
+pub seen_later : (ws : List ℕ) (p k : ℕ) → (path_of ws k ≡ p → ⊥) → seen_in ws p k ≡ false → seen_in ws p (k + 1) ≡ false
+unfolding seen_in
+seen_later ws p k h e = rw (add-one k, ne_eqb _ _ h, e)
+
 pub seen_there : (ws : List ℕ) (p j k : ℕ) → j < k → path_of ws j ≡ p → seen_in ws p k ≡ true
 unfolding seen_in
 seen_there ws p j zero l e = absurd (omega arith)

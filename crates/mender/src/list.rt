@@ -28,7 +28,9 @@ pub enum MendError {
 impl From<CheckError> for MendError {
     ghost from_gives = { λ e r. r ≡ NotTaken e };
 
-    fn from(e: CheckError) -> MendError {
+    fn from(e: CheckError) -> MendError
+        ensures { result ≡ NotTaken e }
+    {
         MendError::NotTaken(e)
     }
 }
@@ -69,7 +71,9 @@ impl From<Result<Plan, MendError>> for Told {
     ghost from_gives = { λ a t. t ≡ told_of a };
 
     #[tactic(auto, unfolding(crate::specs::Report::told_of))]
-    fn from(answer: Result<Plan, MendError>) -> Told {
+    fn from(answer: Result<Plan, MendError>) -> Told
+        ensures { result ≡ told_of answer }
+    {
         match answer {
             Ok(plan) => Told {
                 number: 0,

@@ -61,7 +61,9 @@ impl From<Result<Passed, Failed>> for Told {
     ghost from_gives = { λ a t. t ≡ told_of a };
 
     #[tactic(auto, unfolding(crate::specs::Verdict::told_of))]
-    fn from(verdict: Result<Passed, Failed>) -> Told {
+    fn from(verdict: Result<Passed, Failed>) -> Told
+        ensures { result ≡ told_of verdict }
+    {
         match verdict {
             Ok(passed) => Told {
                 number: 0,

@@ -37,8 +37,10 @@ pub fn one(b: bool) -> usize
 pub fn word_at(list: &[u32], k: usize, i: usize) -> u32
     ensures { result ≡ word list.now k i }
 {
-    let at = k.saturating_mul(6).saturating_add(i);
-    list.get(at).copied().unwrap_or(0)
+    if list.len() / 6 < k {
+        return 0;
+    }
+    list[k * 6..].get(i).copied().unwrap_or(0)
 }
 
 // The same where the record is known to be there: without a test.

@@ -8,7 +8,7 @@ use curve::flatten_euler;
 use drawing::arc::flatten_arc;
 use drawing::cap::draw_cap;
 use drawing::join::draw_join;
-use drawing::line::{Nib, Reach, Stopped};
+use drawing::line::{Ink, Nib, Reach};
 use lists::{float, word};
 use spiral::util::Vec2;
 use std::io;
@@ -44,14 +44,14 @@ fn points(line: &[u8]) -> [Vec2; 6] {
     ]
 }
 
-fn arc(lines: &mut [u32], nib: Nib, line: &[u8]) -> Result<Nib, Stopped> {
+fn arc(lines: &mut [u32], ink: Ink, line: &[u8]) -> Ink {
     let points = points(line);
     let begin = points[0];
     let end = points[1];
     let center = points[2];
     flatten_arc(
         lines,
-        nib,
+        ink,
         begin,
         end,
         center,
@@ -60,7 +60,7 @@ fn arc(lines: &mut [u32], nib: Nib, line: &[u8]) -> Result<Nib, Stopped> {
     )
 }
 
-fn cap(lines: &mut [u32], nib: Nib, line: &[u8]) -> Result<Nib, Stopped> {
+fn cap(lines: &mut [u32], ink: Ink, line: &[u8]) -> Ink {
     let points = points(line);
     let at = points[0];
     let cap0 = points[1];
@@ -68,7 +68,7 @@ fn cap(lines: &mut [u32], nib: Nib, line: &[u8]) -> Result<Nib, Stopped> {
     let tangent = points[3];
     draw_cap(
         lines,
-        nib,
+        ink,
         word(line, 4),
         at,
         cap0,
@@ -78,7 +78,7 @@ fn cap(lines: &mut [u32], nib: Nib, line: &[u8]) -> Result<Nib, Stopped> {
     )
 }
 
-fn join(lines: &mut [u32], nib: Nib, line: &[u8]) -> Result<Nib, Stopped> {
+fn join(lines: &mut [u32], ink: Ink, line: &[u8]) -> Ink {
     let points = points(line);
     let p0 = points[0];
     let tan_prev = points[1];
@@ -88,7 +88,7 @@ fn join(lines: &mut [u32], nib: Nib, line: &[u8]) -> Result<Nib, Stopped> {
     let flags = word(line, 4);
     draw_join(
         lines,
-        nib,
+        ink,
         flags,
         p0,
         tan_prev,
@@ -99,29 +99,29 @@ fn join(lines: &mut [u32], nib: Nib, line: &[u8]) -> Result<Nib, Stopped> {
     )
 }
 
-fn euler(lines: &mut [u32], nib: Nib, line: &[u8]) -> Result<Nib, Stopped> {
+fn euler(lines: &mut [u32], ink: Ink, line: &[u8]) -> Ink {
     let points = points(line);
     let cubic = [points[0], points[1], points[2], points[3]];
     let start = points[4];
     let end = points[5];
-    flatten_euler(lines, nib, cubic, transform(line), number(line), start, end)
+    flatten_euler(lines, ink, cubic, transform(line), number(line), start, end)
 }
 
 // Draws behind as many lines as the vector says. The Rust tells no tag: 0 stands for it. The call is a number that a
 // list holds: as an enum, it would be named once more.
-fn draw(lines: &mut [u32], line: &[u8]) -> Result<Nib, Stopped> {
+fn draw(lines: &mut [u32], line: &[u8]) -> Ink {
     let reach = Reach::empty();
-    let nib = Nib {
+    let ink = Ok(Nib {
         count: word(line, 2),
         tag: 0,
         path: word(line, 3),
         reach,
-    };
+    });
     match word(line, 0) {
-        1 => arc(lines, nib, line),
-        2 => cap(lines, nib, line),
-        3 => join(lines, nib, line),
-        _ => euler(lines, nib, line),
+        1 => arc(lines, ink, line),
+        2 => cap(lines, ink, line),
+        3 => join(lines, ink, line),
+        _ => euler(lines, ink, line),
     }
 }
 

@@ -10,7 +10,7 @@ use Rattle.refusals.specs.declared.Refusal.TheVariants.{BadBase}
 use Rattle.scene.specs.Words.{word_at}
 use Rattle.scene.specs.Tags.{plus, word_sums, tag_of, Scan, scan_told, filled, scan_of}
 use Rattle.std.specs.Float.Ieee.Scale.{finite}
-use Rattle.scene.specs.Reading.{segment_of, transform_of, all_finite, flags_of, width_of}
+use Rattle.scene.specs.Reading.{i16_of, segment_of, transform_of, all_finite, flags_of, width_of}
 use Rattle.scene.specs.declared.tags.PathMonoid.{PathMonoid}
 
 pub word_at_only : (words : List ℕ) (at : ℕ) → Only (λ r. r ≡ word_at words at)
@@ -24,6 +24,9 @@ combine_only a b = determined (plus a b)
 
 pub compute_tag_monoid_only : (scene : List ℕ) (base : ℕ) (lent : List ℕ) (ix : ℕ) → Only (λ r. r ≡ tag_of scene base lent ix)
 compute_tag_monoid_only scene base lent ix = determined (tag_of scene base lent ix)
+
+pub i16_of_only : (half : ℕ) → Only (λ r. r ≡ i16_of half)
+i16_of_only half = determined (i16_of half)
 
 pub read_path_segment_only : (tag : ℕ) (stroke : Bool) (offset : ℕ) (scene : List ℕ) (base : ℕ) → Only (λ r. r ≡ segment_of tag stroke offset scene base)
 read_path_segment_only tag stroke offset scene base = determined (segment_of tag stroke offset scene base)

@@ -2,9 +2,8 @@
 use Rattle.std.specs.Prelude.{ℕ, ◌≡◌, List, Float}
 use Rattle.laws.specs.Only.{Only, determined}
 use Rattle.spiral.specs.declared.util.Vec2.{Vec2}
-use Rattle.drawing.specs.Page.{Page, Drew}
+use Rattle.drawing.specs.Page.{Ink, Page, Drew}
 use Rattle.drawing.specs.Only.{drew_only}
-use Rattle.drawing.specs.declared.line.Nib.{Nib}
 use Rattle.segment.specs.Segment.{neighbor_of, shape_events}
 use Rattle.segment.specs.declared.Neighbor.{Neighbor}
 use Rattle.segment.specs.declared.Shape.{Shape}
@@ -13,6 +12,6 @@ pub neighbor_of_only : (tag : ℕ) (ps : List Vec2) → Only (λ (r : Neighbor).
 neighbor_of_only tag ps = determined (neighbor_of tag ps)
 
 -- nor other words at the end
-pub draw_shape_only : (ws : List ℕ) (nib : Nib) (s : Shape) (flags : ℕ) (z : List Float) (ps : List Vec2)
-    → Only (λ (r : Page). Drew ws nib (shape_events s flags z ps) r.words r.ink)
-draw_shape_only ws nib s flags z ps = drew_only ws nib (shape_events s flags z ps)
+pub draw_shape_only : (ws : List ℕ) (ink : Ink) (s : Shape) (flags : ℕ) (z : List Float) (ps : List Vec2)
+    → Only (λ (r : Page). Drew ws ink (shape_events s flags z ps) r.words r.ink)
+draw_shape_only ws ink s flags z ps = drew_only ws ink (shape_events s flags z ps)

@@ -1,5 +1,5 @@
 // What a segment draws: a fill, a stroke, or the cap where a stroke starts.
-#![tactic(auto, unfolding(crate::specs::Segment::quarter, crate::specs::Segment::steady_of, crate::specs::Segment::neighbor_of, crate::specs::Segment::tangents_of, crate::specs::Segment::edges_of, crate::specs::Segment::sides_events, crate::specs::Segment::end_events, crate::specs::Segment::stroke_events, crate::specs::Segment::start_cap_events, crate::specs::Segment::fill_events, crate::specs::Segment::shape_events, drawing::proofs::Floats::of_bits, drawing::proofs::Floats::round))]
+#![tactic(auto, using(drawing::specs::PageLaws::nothing), unfolding(crate::specs::Segment::quarter, crate::specs::Segment::steady_of, crate::specs::Segment::neighbor_of, crate::specs::Segment::tangents_of, crate::specs::Segment::edges_of, crate::specs::Segment::sides_events, crate::specs::Segment::end_events, crate::specs::Segment::stroke_events, crate::specs::Segment::start_cap_events, crate::specs::Segment::fill_events, crate::specs::Segment::shape_events, drawing::proofs::Floats::of_bits, drawing::proofs::Floats::round))]
 
 ghost use Rattle.std.specs.Prelude.{◌≡◌};
 ghost use Rattle.drawing.specs.Cubic.{point};
@@ -10,7 +10,7 @@ use curve::flatten_euler;
 use drawing::cap::draw_cap;
 use drawing::cubic::{cubic_end_tangent, cubic_start_tangent};
 use drawing::join::draw_join;
-use drawing::line::{Nib, Stopped};
+use drawing::line::Ink;
 use spiral::euler::TANGENT_THRESH;
 use spiral::util::Vec2;
 
@@ -119,8 +119,8 @@ fn edges_of(t: Tangents, offset: f32) -> Edges
 
 impl Segment {
     // The side at the offset, then the one across.
-    fn draw_sides(self, lines: &mut [u32], nib: Nib, offset: f32, e: Edges) -> Result<Nib, Stopped>
-        ensures { Drew lines.old nib (sides_events self.transform self.cubic offset e) lines.new result }
+    fn draw_sides(self, lines: &mut [u32], ink: Ink, offset: f32, e: Edges) -> Ink
+        ensures { Drew lines.old ink (sides_events self.transform self.cubic offset e) lines.new result }
     {
         let cubic = self.cubic;
         let transform = self.transform;
@@ -130,28 +130,21 @@ impl Segment {
         let end = p3 + e.n_prev;
         let back_start = p0 - e.n_start;
         let back_end = p3 - e.n_prev;
-        let first = flatten_euler(lines, nib, cubic, transform, offset, start, end)?;
+        let first = flatten_euler(lines, ink, cubic, transform, offset, start, end);
         flatten_euler(
             lines, first, cubic, transform, -offset, back_start, back_end,
         )
     }
 
     // The join to the next segment, or the cap where the stroke ends.
-    fn draw_end(
-        self,
-        lines: &mut [u32],
-        nib: Nib,
-        do_join: bool,
-        t: Tangents,
-        e: Edges,
-    ) -> Result<Nib, Stopped>
-        ensures { Drew lines.old nib (end_events do_join self.flags self.transform (point self.cubic 3) t e) lines.new result }
+    fn draw_end(self, lines: &mut [u32], ink: Ink, do_join: bool, t: Tangents, e: Edges) -> Ink
+        ensures { Drew lines.old ink (end_events do_join self.flags self.transform (point self.cubic 3) t e) lines.new result }
     {
         let p3 = self.cubic[3];
         if do_join {
             return draw_join(
                 lines,
-                nib,
+                ink,
                 self.flags,
                 p3,
                 t.prev,
@@ -163,7 +156,7 @@ impl Segment {
         }
         draw_cap(
             lines,
-            nib,
+            ink,
             self.flags & END_CAP_MASK,
             p3,
             p3 + e.n_prev,
@@ -173,33 +166,27 @@ impl Segment {
         )
     }
 
-    fn stroke(
-        self,
-        lines: &mut [u32],
-        nib: Nib,
-        width: f32,
-        neighbor: Neighbor,
-    ) -> Result<Nib, Stopped>
-        ensures { Drew lines.old nib (stroke_events self.flags self.transform self.cubic width neighbor) lines.new result }
+    fn stroke(self, lines: &mut [u32], ink: Ink, width: f32, neighbor: Neighbor) -> Ink
+        ensures { Drew lines.old ink (stroke_events self.flags self.transform self.cubic width neighbor) lines.new result }
     {
         let offset = 0.5 * width;
         let t = tangents_of(self.cubic, neighbor.tangent);
         let e = edges_of(t, offset);
-        let sides = self.draw_sides(lines, nib, offset, e)?;
+        let sides = self.draw_sides(lines, ink, offset, e);
         self.draw_end(lines, sides, neighbor.do_join, t, e)
     }
 
     // The curve alone: a subpath that the data leave open is not closed.
-    fn fill(self, lines: &mut [u32], nib: Nib) -> Result<Nib, Stopped>
-        ensures { Drew lines.old nib (fill_events self.transform self.cubic) lines.new result }
+    fn fill(self, lines: &mut [u32], ink: Ink) -> Ink
+        ensures { Drew lines.old ink (fill_events self.transform self.cubic) lines.new result }
     {
         let cubic = self.cubic;
         let transform = self.transform;
-        flatten_euler(lines, nib, cubic, transform, 0.0, cubic[0], cubic[3])
+        flatten_euler(lines, ink, cubic, transform, 0.0, cubic[0], cubic[3])
     }
 
-    fn start_cap(self, lines: &mut [u32], nib: Nib, width: f32) -> Result<Nib, Stopped>
-        ensures { Drew lines.old nib (start_cap_events self.flags self.transform self.cubic width) lines.new result }
+    fn start_cap(self, lines: &mut [u32], ink: Ink, width: f32) -> Ink
+        ensures { Drew lines.old ink (start_cap_events self.flags self.transform self.cubic width) lines.new result }
     {
         let p0 = self.cubic[0];
         let offset_tangent = (self.cubic[3] - p0).normalize() * (0.5 * width);
@@ -207,7 +194,7 @@ impl Segment {
         let style = (self.flags & START_CAP_MASK) / 4;
         draw_cap(
             lines,
-            nib,
+            ink,
             style,
             p0,
             p0 - n,
@@ -217,14 +204,14 @@ impl Segment {
         )
     }
 
-    pub fn draw_shape(self, lines: &mut [u32], nib: Nib, shape: Shape) -> Result<Nib, Stopped>
-        ensures { Drew lines.old nib (shape_events shape self.flags self.transform self.cubic) lines.new result }
+    pub fn draw_shape(self, lines: &mut [u32], ink: Ink, shape: Shape) -> Ink
+        ensures { Drew lines.old ink (shape_events shape self.flags self.transform self.cubic) lines.new result }
     {
         match shape {
-            Shape::Nothing => Ok(nib),
-            Shape::Fill => self.fill(lines, nib),
-            Shape::StartCap(width) => self.start_cap(lines, nib, width),
-            Shape::Stroke(width, neighbor) => self.stroke(lines, nib, width, neighbor),
+            Shape::Nothing => ink,
+            Shape::Fill => self.fill(lines, ink),
+            Shape::StartCap(width) => self.start_cap(lines, ink, width),
+            Shape::Stroke(width, neighbor) => self.stroke(lines, ink, width, neighbor),
         }
     }
 }

@@ -74,7 +74,9 @@ impl Add for Vec2 {
 
     ghost add_gives = { λ a b r. r ≡ add_of a b };
 
-    fn add(self, rhs: Vec2) -> Vec2 {
+    fn add(self, rhs: Vec2) -> Vec2
+        ensures { result ≡ add_of self rhs }
+    {
         Vec2 {
             x: self.x + rhs.x,
             y: self.y + rhs.y,
@@ -87,7 +89,9 @@ impl Sub for Vec2 {
 
     ghost sub_gives = { λ a b r. r ≡ sub_of a b };
 
-    fn sub(self, rhs: Vec2) -> Vec2 {
+    fn sub(self, rhs: Vec2) -> Vec2
+        ensures { result ≡ sub_of self rhs }
+    {
         Vec2 {
             x: self.x - rhs.x,
             y: self.y - rhs.y,
@@ -100,7 +104,9 @@ impl Mul<f32> for Vec2 {
 
     ghost mul_gives = { λ a s r. r ≡ mul_of a s };
 
-    fn mul(self, rhs: f32) -> Vec2 {
+    fn mul(self, rhs: f32) -> Vec2
+        ensures { result ≡ mul_of self rhs }
+    {
         Vec2 {
             x: self.x * rhs,
             y: self.y * rhs,
@@ -113,7 +119,9 @@ impl Div<f32> for Vec2 {
 
     ghost div_gives = { λ a s r. r ≡ div_of a s };
 
-    fn div(self, rhs: f32) -> Vec2 {
+    fn div(self, rhs: f32) -> Vec2
+        ensures { result ≡ div_of self rhs }
+    {
         Vec2 {
             x: self.x / rhs,
             y: self.y / rhs,
@@ -126,7 +134,9 @@ impl Neg for Vec2 {
 
     ghost neg_gives = { λ a r. r ≡ neg_of a };
 
-    fn neg(self) -> Vec2 {
+    fn neg(self) -> Vec2
+        ensures { result ≡ neg_of self }
+    {
         Vec2 {
             x: -self.x,
             y: -self.y,
@@ -140,7 +150,9 @@ impl PartialEq for Vec2 {
 
     ghost laws = { same_points };
 
-    fn eq(&self, other: &Vec2) -> bool {
+    fn eq(&self, other: &Vec2) -> bool
+        ensures { result ≡ eq_of self.now other.now }
+    {
         self.x == other.x && self.y == other.y
     }
 }

@@ -196,7 +196,9 @@ impl From<Result<(), Refusal>> for Report {
     ghost from_gives = { λ a t. t ≡ report_of a };
 
     #[tactic(auto, unfolding(crate::specs::Import::report_of))]
-    fn from(answer: Result<(), Refusal>) -> Report {
+    fn from(answer: Result<(), Refusal>) -> Report
+        ensures { result ≡ report_of answer }
+    {
         let (number, at) = match answer {
             Ok(()) => (0, 0),
             Err(Refusal::Faulty(fault, at)) => (fault.number(), at),

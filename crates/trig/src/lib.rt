@@ -138,13 +138,26 @@ fn turns(on: u32, t: Turn) -> f32
     wave(t.quarters % 4 + on, t.rest)
 }
 
+// sin of an angle below 0.78125 and one quarter turn more where on is 1. Here the branch is worth its guess: only one of the sums is
+// worked out.
+fn near(on: u32, r: f32) -> f32
+    requires { on ≤ 1 }
+    ensures { result ≡ wave_of on r }
+{
+    if on == 0 {
+        bounded(-1.0, 1.0, sin_near(r))
+    } else {
+        bounded(-1.0, 1.0, cos_near(r))
+    }
+}
+
 // sin of an angle that is not negative and one quarter turn more where on is 1: a small angle is its own rest.
 fn curve(on: u32, a: f32) -> f32
     requires { on ≤ 1 }
     ensures { result ≡ cond (lt a infinity) (wave_of ((reduced_of a).quarters + on) (reduced_of a).rest) nan }
 {
     if a < 0.78125 {
-        wave(on, a)
+        near(on, a)
     } else if a <= 1024.0 {
         turns(on, quarters(a))
     } else if a < f32::INFINITY {

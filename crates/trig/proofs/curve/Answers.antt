@@ -19,7 +19,7 @@ most (fin s n d) m e h = refl
 
 pub returns-then-a : goal.returns-then-a
 unfolding reduced_of of_bits
-returns-then-a c = rw (below c.args.a 25 (negsuc 4) c.if-a.true, c.wave.ensures, c.if-a.true, zero-add)
+returns-then-a c = rw (below c.args.a 25 (negsuc 4) c.if-a.true, c.near.ensures, c.if-a.true, zero-add)
 
 pub returns-then-a-2 : goal.returns-then-a-2
 unfolding reduced_of far_of of_bits

@@ -2,7 +2,7 @@
 use Rattle.std.proofs.Common.{ℕ, length, sym, ap, ◌∙◌, arith, Ok}
 use Rattle.flatten.specs.declared.call.Layout.{Layout}
 use Rattle.cut.specs.Sheet.{six_of, layout_by, layout_of, size_of, laid}
-use Rattle.cut.specs.SheetLaws.{small_some, small_none, few_tags, too_large, no_sheet_lem, a_sheet}
+use Rattle.cut.specs.SheetLaws.{small_some, small_none, few_tags, too_large, too_little_room, a_sheet}
 use Rattle.cut.proofs.sheet.lay.Goals as goal
 
 pub returns-in_default : goal.returns-in_default
@@ -14,7 +14,7 @@ pub returns-then-scene-size : goal.returns-then-scene-size
 returns-then-scene-size c =
     let s = c.args in
     let is = small_some _ _ _ (sym c.size_of.ensures ∙ c.in-Some.is) in
-    no_sheet_lem s.tags.now s.points.now (six_of s.six) s.scene.now _ is.0 is.1 c.if-scene-size.true
+    too_little_room s.tags.now s.points.now (six_of s.six) s.scene.now _ is.0 is.1 c.if-scene-size.true
 
 pub write-requires : goal.write-requires
 write-requires c =
